@@ -338,7 +338,10 @@ module _ (X : List ℕ → List ℕ) (good : IsHash X) (p : Profile) (m : Meta) 
 pub some_bytes : (n : ℕ) (t : Bool) → t ≡ (n == 0) → t ≡ false → 1 ≤ n
 some_bytes n t e h = grind (arith, nat_tests)
 
-laid_empty : (b : List ℕ) (offset : ℕ) (x : List ℕ) (t : Bool) → t ≡ (length x == 0) → t ≡ true → laid b offset x ≡ b
+pub no_bytes : (n : ℕ) (t : Bool) → t ≡ (n == 0) → t ≡ true → n ≡ 0
+no_bytes n t e h = grind (arith, nat_tests)
+
+pub laid_empty : (b : List ℕ) (offset : ℕ) (x : List ℕ) (t : Bool) → t ≡ (length x == 0) → t ≡ true → laid b offset x ≡ b
 laid_empty b offset [] t e h = refl
 laid_empty b offset (z ∷ x) t e h = absurd (no (length x) t e h)
   where

@@ -1,5 +1,5 @@
 -- A file made of a piece and the zeros in front of it.
-use Rattle.std.proofs.Common.{None, Some, ◌≡◌, ℕ, ◌+◌, ◌-◌, ◌*◌, ◌<◌, ◌≤◌, List, [], length, map, max, ap, arith, sym, ◌∙◌, subst, IsTrue}
+use Rattle.std.proofs.Common.{None, Some, ◌≡◌, ℕ, ◌+◌, ◌-◌, ◌*◌, ◌<◌, ◌≤◌, List, [], length, map, max, ap, arith, refl, sym, ◌∙◌, subst, IsTrue, Bool, true, ◌==◌}
 use Rattle.std.specs.List.{AllByRecursion}
 use Rattle.std.proofs.Math.Nat.{mul-le-mul_right}
 use Rattle.uf_cid.specs.declared.cid.Cid.{Cid}
@@ -27,7 +27,7 @@ use Rattle.uf_fileedit.specs.Touches.{IsEditWithin, edit_touches, written_chunks
 use Rattle.uf_fileedit.specs.Ways.{IsBadAmongOld}
 use Rattle.uf_tree.proofs.Told.{kept}
 use Rattle.uf_fileedit.proofs.Bytes.{changed-laid, length-changed}
-use Rattle.uf_fileedit.proofs.Edited.{bare-under, file-made, more-rows}
+use Rattle.uf_fileedit.proofs.Edited.{bare-under, file-made, laid_empty, more-rows, no_bytes}
 use Rattle.uf_fileedit.proofs.Files.{known-holds}
 use Rattle.uf_fileedit.proofs.Kept.{all-good, known-later}
 use Rattle.uf_fileedit.proofs.Touching.{write-costs}
@@ -87,3 +87,19 @@ made-costs p ok m n offset x rows t0 t1 is some rows_is cost =
     more-rows (written_chunks p.chunk 0 offset (length x)) (max 0 new.0) rows t0 t1 (let low : new.0 ≤ rows = new.2 in omega arith)
     (write-costs p.chunk 0 n offset (length x) 0 new.0 t0 t1 ((kept p ok).some) some (omega arith)
     (λ a z within. let r = cost new.0 a z (subst (λ k. IsHeight p.chunk p.width k new.0) bytes new.1) within in omega (arith, r)))
+
+-- ---- an empty piece
+
+pub empty-file : (X : List ℕ → List ℕ) (p : Profile) (m : Meta) (now : Told) (e : Entry) (offset : ℕ) (x : List ℕ) (t : Bool) → t ≡ (length x == 0) → t ≡ true → GivesFile X p m now [] e (overlaid 0 [] offset x)
+    → Holds now (file_plan X p m (laid [] offset x)).blocks
+empty-file X p m now e offset x t is none gives = subst (λ l. Holds now (file_plan X p m l).blocks) (sym (laid_empty [] offset x t is none)) (known-holds now [] (file_plan X p m []).blocks (none-held now) gives.known)
+
+pub empty-costs : (p : Profile) (m : Meta) (offset : ℕ) (x : List ℕ) (rows t0 t1 : ℕ) (t : Bool) → t ≡ (length x == 0) → t ≡ true
+    → ((after a z : ℕ) → IsHeight p.chunk p.width 0 after → IsEditWithin p.chunk 0 0 offset (length x) a z → t1 ≤ t0 + 3 + 2 * (after + 1) * (z - a))
+    → t1 ≤ t0 + edit_touches (written_chunks p.chunk 0 offset (length x)) rows
+empty-costs p m offset x rows t0 t1 t is empty cost =
+    let none : length x ≡ 0 = no_bytes (length x) t is empty in
+    let high : IsHeight p.chunk p.width 0 0 = record { fits = omega arith; least = λ k low. absurd (omega arith) } in
+    let within : IsEditWithin p.chunk 0 0 offset (length x) 0 0 = record { laid = λ some. absurd (omega arith); ends = λ differs. absurd (differs refl) } in
+    let few : t1 ≤ t0 + 3 + 2 * (0 + 1) * (0 - 0) = cost 0 0 0 high within in
+    more-rows (written_chunks p.chunk 0 offset (length x)) 0 rows t0 t1 (omega arith) (omega arith)

@@ -1,18 +1,13 @@
 //! Parts of a file changed, from the root down.
-ghost use Rattle.std.specs.Prelude.{◌≡◌, ◌⊎◌, ◌+◌, ◌-◌, ◌*◌, ◌<◌, ◌≤◌, ℕ, List, [], ◌∷◌, length, min, slice_get, IfErr};
-ghost use Rattle.std.specs.Prelude.{IfNone, IfOk, IfSome, IsTrue, None, Some};
+ghost use Rattle.std.specs.Prelude.{◌≡◌, ◌⊎◌, ◌+◌, ◌-◌, ◌*◌, ◌<◌, ◌≤◌, length, min, slice_get, IfNone, IfOk, IfSome};
+ghost use Rattle.std.specs.Prelude.{IsTrue, None, Some};
 ghost use Rattle.std.specs.List.{sum_by};
-ghost use Rattle.uf_edge.specs.Counts.{Stood};
-ghost use Rattle.uf_store.specs.Faults.{Answers};
-ghost use Rattle.uf_store.specs.Keeping.{Agrees, KeepsGood};
-ghost use Rattle.uf_store.specs.Writing.{SavesOnly};
-ghost use Rattle.uf_store.specs.Lost.{IsLossOf};
-ghost use Rattle.uf_tree.specs.FileSub.{blocks_over, span};
 ghost use Rattle.uf_tree.specs.Profiles.{is_profile};
-ghost use Rattle.uf_fileedit.specs.Changes.{HasSize, IsBlank, IsFrontPart, IsOldPart, LiesWithin, LosesOfPart};
-ghost use Rattle.uf_fileedit.specs.Changes.{LosesOfParts, MakesPart, MakesParts};
-ghost use Rattle.uf_fileedit.specs.Touches.{AreBelow, Climbs, IsChangeWithin, IsLeft};
-ghost use Rattle.uf_fileedit.specs.Ways.{IsBadAmongOld, IsBadOld, StandBelow};
+ghost use Rattle.uf_fileedit.specs.Changes.{HasSize, LiesWithin};
+ghost use Rattle.uf_fileedit.specs.Touches.{Climbs, IsLeft};
+ghost use Rattle.uf_fileedit.specs.Layers.{AreNoMore, CostsChange, CostsParts, FindsFront, OfChange, ReadsOld};
+ghost use Rattle.uf_fileedit.specs.Layers.{RemakesBeside, RemakesPart, RemakesParts, SavesAmongOld, SavesIn};
+ghost use Rattle.uf_fileedit.specs.Layers.{StandsIn, room_at};
 
 use crate::layout::{Layer, span_of};
 use crate::leaves::change_leaf;
@@ -41,21 +36,12 @@ pub fn front_of<S: Store, L: Ledger>(
     touches: &mut Steps<L>,
 ) -> Result<Part, StoreFault>
     requires profile { IsTrue (is_profile layer.p) }
-    ensures gives { (b : List ℕ) → IsOldPart S.X.block32 layer.p layer.top root b
-        → Agrees (S.seen store.old).told (blocks_over S.X.block32 layer.p.chunk layer.p.width layer.top b)
-        → IfOk result (λ m. IsFrontPart S.X.block32 layer.p layer.top (min layer.top layer.height) m b) }
-    ensures lost { (b : List ℕ) → layer.rows ≤ 22 → IsOldPart S.X.block32 layer.p layer.top root b
-        → Agrees (S.seen store.old).told (blocks_over S.X.block32 layer.p.chunk layer.p.width layer.top b)
-        → Stood (S.seen store.old).faults (S.seen store.new).faults
-        → IfErr result (IsLossOf (S.seen store.old).told (blocks_over S.X.block32 layer.p.chunk layer.p.width
-        layer.top b)) }
-    ensures cause { Answers S.X.block32 (IsBadOld S.X.block32 layer.p (S.seen store.new).told layer.rows layer.top
-        (Some root)) result (S.seen store.old) (S.seen store.new) }
-    ensures stand { IfOk result (λ m. StandBelow S.X.block32 layer.p (S.seen store.old).told layer.rows layer.top
-        (Some root) (min layer.top layer.height) (m ∷ [])) }
-    ensures told { (S.seen store.new).told ≡ (S.seen store.old).told }
-    ensures size { root.size ≤ span layer.p.chunk layer.p.width layer.top → IfOk result (λ m. m.size ≡ min root.size
-        (span layer.p.chunk layer.p.width (min layer.top layer.height))) }
+    ensures gives { FindsFront S.X.block32 layer root (S.seen store.old) (S.seen store.new) result }
+    ensures stand { StandsIn S.X.block32 layer layer.top (Some root) (S.seen store.old) result }
+    ensures reads { ReadsOld S.X.block32 layer.p layer.rows layer.top (Some root) (S.seen store.old) (S.seen store.new)
+        result }
+    ensures size { root.size ≤ room_at layer.p layer.top → IfOk result (λ m. m.size ≡ min root.size
+        (room_at layer.p (min layer.top layer.height))) }
     ensures rises { touches.old ≤ touches.new }
     ensures touches { touches.new ≤ touches.old + (layer.top - layer.height) }
 {
@@ -92,20 +78,13 @@ pub fn change<S: Store, L: Ledger>(
     requires size { HasSize layer.p layer.height target.size }
     requires within { LiesWithin target.size target.offset piece.now }
     ensures size { IfOk result (λ m. m.size ≡ target.size) }
-    ensures gives { IsBlank S.X.block32 layer.p (S.seen store.old).told 0 layer.zeros
-        → MakesPart S.X.block32 layer.p layer.top layer.height target piece.now (S.seen store.old).told
-        (S.seen store.new).told result }
-    ensures lost { layer.rows ≤ 22 → LosesOfPart S.X.block32 layer.p (min layer.top layer.height) target.old
-        (S.seen store.old) (S.seen store.new) result }
+    ensures gives { RemakesPart S.X.block32 layer layer.height target piece.now (S.seen store.old) (S.seen store.new)
+        result }
     ensures left { IsLeft layer.top layer.height target.size target.old → length piece.now ≡ 0
         → (S.seen store.new).told ≡ (S.seen store.old).told }
-    ensures cause { Answers S.X.block32 (IsBadOld S.X.block32 layer.p (S.seen store.new).told layer.rows
-        (min layer.top layer.height) target.old) result (S.seen store.old) (S.seen store.new) }
-    ensures good { KeepsGood S.X.block32 (S.seen store.old).told (S.seen store.new).told }
-    ensures saves { SavesOnly S.X.block32 (S.seen store.old).told (S.seen store.new).told }
+    ensures saves { SavesIn S.X.block32 layer layer.height target.old (S.seen store.old) (S.seen store.new) result }
     ensures rises { Climbs result touches.old touches.new }
-    ensures touches { (a z : ℕ) → IsChangeWithin layer.p layer.top layer.height target.old target.size target.offset
-        (length piece.now) a z → touches.new ≤ touches.old + 2 * (layer.height + 1) * (z - a) }
+    ensures touches { CostsChange layer layer.height target piece.now touches.old touches.new }
 {
     if let Some(part) = same_part(layer, target, piece) {
         return Ok(part);
@@ -155,27 +134,21 @@ fn change_node<S: Store, L: Ledger>(
     requires size { HasSize layer.p (layer.height + 1) target.size }
     requires within { LiesWithin target.size target.offset piece.now }
     ensures size { IfOk result (λ m. m.size ≡ target.size) }
-    ensures gives { IsBlank S.X.block32 layer.p (S.seen store.old).told 0 layer.zeros
-        → MakesPart S.X.block32 layer.p layer.top (layer.height + 1) target piece.now (S.seen store.old).told
-        (S.seen store.new).told result }
-    ensures lost { layer.rows ≤ 22 → LosesOfPart S.X.block32 layer.p (min layer.top (layer.height + 1)) target.old
-        (S.seen store.old) (S.seen store.new) result }
-    ensures cause { Answers S.X.block32 (IsBadOld S.X.block32 layer.p (S.seen store.new).told layer.rows
-        (min layer.top (layer.height + 1)) target.old) result (S.seen store.old) (S.seen store.new) }
-    ensures good { KeepsGood S.X.block32 (S.seen store.old).told (S.seen store.new).told }
-    ensures saves { SavesOnly S.X.block32 (S.seen store.old).told (S.seen store.new).told }
+    ensures gives { RemakesPart S.X.block32 layer (layer.height + 1) target piece.now (S.seen store.old)
+        (S.seen store.new) result }
+    ensures saves { SavesIn S.X.block32 layer (layer.height + 1) target.old (S.seen store.old) (S.seen store.new)
+        result }
     ensures rises { Climbs result touches.old touches.new }
-    ensures touches { (a z : ℕ) → IsChangeWithin layer.p layer.top (layer.height + 1) target.old target.size
-        target.offset (length piece.now) a z → a < z
-        → touches.new ≤ touches.old + 2 * (layer.height + 1 + 1) * (z - a) }
+    ensures touches { OfChange layer (layer.height + 1) target piece.now (λ a z. a < z
+        → touches.new ≤ touches.old + 2 * (layer.height + 1 + 1) * (z - a)) }
 {
     let olds = parts_below(alloc, store, layer, target.old, touches)?;
     let news = change_parts(alloc, store, layer, target, olds.as_slice(), piece, touches)?;
     save_node(alloc, store, news.as_slice(), touches)
 }
 
-// The parts of a layer below a node. Whole parts of zeros are made once, and a piece of zeros that is saved isn't saved
-// again.
+// The parts of a layer below a node. Whole parts of zeros are made once, and a piece of zeros that is saved isn't
+// saved again.
 #[cycle(changes)]
 pub fn change_parts<S: Store, L: Ledger>(
     alloc: Global,
@@ -191,22 +164,14 @@ pub fn change_parts<S: Store, L: Ledger>(
     requires within { LiesWithin target.size target.offset piece.now }
     ensures some { IfOk result (λ parts. 1 ≤ length parts) }
     ensures few { IfOk result (λ parts. length parts ≤ 1024) }
-    ensures room { IfOk result (λ parts. length parts * span layer.p.chunk layer.p.width layer.height
-        < target.size + span layer.p.chunk layer.p.width layer.height) }
+    ensures room { IfOk result (AreNoMore layer.p layer.height target.size) }
     ensures size { IfOk result (λ parts. sum_by (λ m. m.size) parts ≡ target.size) }
-    ensures gives { IsBlank S.X.block32 layer.p (S.seen store.old).told 0 layer.zeros
-        → MakesParts S.X.block32 layer.p layer.top layer.height olds.now target piece.now
-        (S.seen store.old).told (S.seen store.new).told result }
-    ensures lost { layer.rows ≤ 22 → LosesOfParts S.X.block32 layer.p layer.top layer.height olds.now (S.seen store.old)
-        (S.seen store.new) result }
-    ensures cause { Answers S.X.block32 (IsBadAmongOld S.X.block32 layer.p (S.seen store.new).told layer.rows
-        (min layer.top layer.height) olds.now) result (S.seen store.old) (S.seen store.new) }
-    ensures good { KeepsGood S.X.block32 (S.seen store.old).told (S.seen store.new).told }
-    ensures saves { SavesOnly S.X.block32 (S.seen store.old).told (S.seen store.new).told }
+    ensures gives { RemakesParts S.X.block32 layer olds.now target piece.now (S.seen store.old) (S.seen store.new)
+        result }
+    ensures saves { SavesAmongOld S.X.block32 layer.p layer.rows (min layer.top layer.height) olds.now
+        (S.seen store.old) (S.seen store.new) result }
     ensures rises { Climbs result touches.old touches.new }
-    ensures touches { (a z : ℕ) → IsChangeWithin layer.p layer.top (layer.height + 1) target.old target.size
-        target.offset (length piece.now) a z → AreBelow (span layer.p.chunk layer.p.width layer.height) target.old
-        olds.now → touches.new ≤ touches.old + 2 * (layer.height + 1) * (z - a) }
+    ensures touches { CostsParts layer target olds.now piece.now touches.old touches.new }
 {
     let most = span_of(&layer.p, layer.height);
     let mut news = Parts::new(alloc);
@@ -250,19 +215,11 @@ fn change_one<S: Store, L: Ledger>(
     requires size { HasSize layer.p layer.height target.size }
     requires within { LiesWithin target.size target.offset piece.now }
     ensures size { IfOk result (λ m. m.size ≡ target.size) }
-    ensures gives { IsBlank S.X.block32 layer.p (S.seen store.old).told 0 layer.zeros
-        → IsBlank S.X.block32 layer.p (S.seen store.old).told layer.height blank
-        → MakesPart S.X.block32 layer.p layer.top layer.height target piece.now (S.seen store.old).told
-        (S.seen store.new).told result }
-    ensures lost { layer.rows ≤ 22 → LosesOfPart S.X.block32 layer.p (min layer.top layer.height) target.old
-        (S.seen store.old) (S.seen store.new) result }
-    ensures cause { Answers S.X.block32 (IsBadOld S.X.block32 layer.p (S.seen store.new).told layer.rows
-        (min layer.top layer.height) target.old) result (S.seen store.old) (S.seen store.new) }
-    ensures good { KeepsGood S.X.block32 (S.seen store.old).told (S.seen store.new).told }
-    ensures saves { SavesOnly S.X.block32 (S.seen store.old).told (S.seen store.new).told }
+    ensures gives { RemakesBeside S.X.block32 layer blank target piece.now (S.seen store.old) (S.seen store.new)
+        result }
+    ensures saves { SavesIn S.X.block32 layer layer.height target.old (S.seen store.old) (S.seen store.new) result }
     ensures rises { Climbs result touches.old touches.new }
-    ensures touches { (a z : ℕ) → IsChangeWithin layer.p layer.top layer.height target.old target.size target.offset
-        (length piece.now) a z → touches.new ≤ touches.old + 2 * (layer.height + 1) * (z - a) }
+    ensures touches { CostsChange layer layer.height target piece.now touches.old touches.new }
 {
     match blank {
         Some(part) if is_nothing(target.old, piece) && part.size == target.size => Ok(part),

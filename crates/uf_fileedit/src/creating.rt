@@ -1,24 +1,17 @@
 //! Files made anew.
-ghost use Rattle.std.specs.Prelude.{◌≡◌, ◌+◌, ◌-◌, ◌*◌, ◌<◌, ◌≤◌, ◌^◌, ◌&&◌, ℕ, [], length, min, nat_lt, IfErr, IfOk};
-ghost use Rattle.std.specs.Prelude.{IsTrue, None, OnOk};
+ghost use Rattle.std.specs.Prelude.{◌≡◌, ◌+◌, ◌-◌, ◌*◌, ◌<◌, ◌≤◌, ◌^◌, [], length, min, IfOk, IsTrue, None};
 ghost use Rattle.std.specs.List.{sum_by};
 ghost use Rattle.uf_cid.specs.declared.cid.Cid.{Cid as TheCid};
-ghost use Rattle.uf_edge.specs.Counts.{Stood};
-ghost use Rattle.uf_store.specs.Faults.{Answers};
-ghost use Rattle.uf_store.specs.Keeping.{Agrees, Holds, KeepsGood, StaysAgreed};
-ghost use Rattle.uf_store.specs.Lost.{IsLossOf};
+ghost use Rattle.uf_store.specs.Keeping.{KeepsGood};
 ghost use Rattle.uf_store.specs.Writing.{SavesOnly};
-ghost use Rattle.uf_tree.specs.FilePlan.{file_plan, groups};
-ghost use Rattle.uf_tree.specs.FileSub.{IsFileHeight, IsHeight, span};
 ghost use Rattle.uf_tree.specs.Metas.{is_meta};
 ghost use Rattle.uf_tree.specs.Profiles.{is_profile, most_bytes};
-ghost use Rattle.uf_fileedit.specs.Answers.{EditsOver, RefusesTooLong, ShownEdit};
-ghost use Rattle.uf_fileedit.specs.Bad.{IsBadEdited};
-ghost use Rattle.uf_fileedit.specs.Changes.{GivesAll, GivesFile, LiesWithin, overlaid};
+ghost use Rattle.uf_fileedit.specs.Changes.{LiesWithin};
 ghost use Rattle.uf_fileedit.specs.Edits.{laid};
-ghost use Rattle.uf_fileedit.specs.Touches.{Climbs, IsEditWithin, TouchedFirst, edit_touches};
-ghost use Rattle.uf_fileedit.specs.Touches.{written_chunks};
-ghost use Rattle.uf_fileedit.specs.Ways.{IsBadAmongOld};
+ghost use Rattle.uf_fileedit.specs.Touches.{Climbs, TouchedFirst};
+ghost use Rattle.uf_fileedit.specs.Files.{CostsCreate, CostsNewFile, GivesNewFile, HoldsNewFile, MakesNewFile};
+ghost use Rattle.uf_fileedit.specs.Files.{RefusesLongWrite, SavesNewFile, ShowsInEdited};
+ghost use Rattle.uf_fileedit.specs.Layers.{CostsNewParts, MakesNewParts, SavesAmongOld, room_at};
 
 use crate::changing::{PartEdit, change_parts};
 use crate::layout::{Layer, heights_of};
@@ -44,24 +37,17 @@ pub fn create<S: Store, L: Ledger>(
 ) -> Result<Entry, BuildFault>
     requires profile { IsTrue (is_profile p.now) }
     requires good { IsTrue (is_meta meta.now) }
-    ensures long { RefusesTooLong (nat_lt 0 (length piece.now) && nat_lt (most_bytes p.now)
-        (offset + length piece.now)) result }
-    ensures value { StaysAgreed (S.seen store.old).told (S.seen store.new).told []
-        → Stood (S.seen store.old).faults (S.seen store.new).faults
-        → Stood (S.seen store.old).clashes (S.seen store.new).clashes
-        → EditsOver (S.seen store.old).told []
-        (file_plan S.X.block32 p.now meta.now (laid [] offset piece.now)).entry result }
-    ensures held { StaysAgreed (S.seen store.old).told (S.seen store.new).told []
-        → OnOk result (Holds (S.seen store.new).told
-        (file_plan S.X.block32 p.now meta.now (laid [] offset piece.now)).blocks) }
-    ensures cause { (root : TheCid) → ShownEdit S.X.block32 (IsBadEdited S.X.block32 p.now (S.seen store.new).told root)
-        result (S.seen store.old) (S.seen store.new) }
+    ensures long { RefusesLongWrite p.now offset piece.now result }
+    ensures value { MakesNewFile S.X.block32 p.now meta.now (laid [] offset piece.now) (S.seen store.old)
+        (S.seen store.new) result }
+    ensures held { HoldsNewFile S.X.block32 p.now meta.now (laid [] offset piece.now) (S.seen store.old)
+        (S.seen store.new) result }
+    ensures cause { (root : TheCid) → ShowsInEdited S.X.block32 p.now root (S.seen store.old) (S.seen store.new)
+        result }
     ensures good { KeepsGood S.X.block32 (S.seen store.old).told (S.seen store.new).told }
     ensures saves { SavesOnly S.X.block32 (S.seen store.old).told (S.seen store.new).told }
     ensures touched { TouchedFirst result touches.old touches.new }
-    ensures touches { (rows : ℕ) → IsFileHeight p.now.chunk p.now.width meta.now
-        (length (laid [] offset piece.now)) rows
-        → touches.new ≤ touches.old + edit_touches (written_chunks p.now.chunk 0 offset (length piece.now)) rows }
+    ensures touches { CostsCreate p.now meta.now offset piece.now touches.old touches.new }
 {
     if piece.is_empty() {
         let nothing = PartEdit {
@@ -99,21 +85,11 @@ fn save_new<S: Store, L: Ledger>(
     requires old { target.old ≡ None }
     requires small { target.size < 2 ^ 63 }
     requires within { LiesWithin target.size target.offset piece.now }
-    ensures gives { Agrees (S.seen store.old).told [] → Agrees (S.seen store.new).told []
-        → IfOk result (λ e. GivesFile S.X.block32 p.now meta.now (S.seen store.new).told [] e
-        (overlaid target.size [] target.offset piece.now)) }
-    ensures lost { Agrees (S.seen store.old).told [] → Agrees (S.seen store.new).told []
-        → Stood (S.seen store.old).faults (S.seen store.new).faults
-        → Stood (S.seen store.old).clashes (S.seen store.new).clashes
-        → IfErr result (IsLossOf (S.seen store.new).told []) }
-    ensures cause { (root : TheCid) → Answers S.X.block32 (IsBadEdited S.X.block32 p.now (S.seen store.new).told root)
-        result (S.seen store.old) (S.seen store.new) }
-    ensures good { KeepsGood S.X.block32 (S.seen store.old).told (S.seen store.new).told }
-    ensures saves { SavesOnly S.X.block32 (S.seen store.old).told (S.seen store.new).told }
+    ensures gives { GivesNewFile S.X.block32 p.now meta.now target piece.now (S.seen store.old) (S.seen store.new)
+        result }
+    ensures saves { SavesNewFile S.X.block32 p.now (S.seen store.old) (S.seen store.new) result }
     ensures rises { Climbs result touches.old touches.new }
-    ensures touches { (after a z : ℕ) → IsHeight p.now.chunk p.now.width target.size after
-        → IsEditWithin p.now.chunk 0 target.size target.offset (length piece.now) a z
-        → touches.new ≤ touches.old + 3 + 2 * (after + 1) * (z - a) }
+    ensures touches { CostsNewFile p.now target piece.now touches.old touches.new }
 {
     let at = heights_of(p, 0, target.size);
     let layer = Layer {
@@ -139,27 +115,18 @@ fn new_parts<S: Store, L: Ledger>(
 ) -> Result<Parts, StoreFault>
     requires profile { IsTrue (is_profile layer.p) }
     requires old { target.old ≡ None }
-    requires fits { target.size ≤ span layer.p.chunk layer.p.width (layer.height + 1) }
+    requires fits { target.size ≤ room_at layer.p (layer.height + 1) }
     requires small { target.size < 2 ^ 63 }
     requires low { target.size ≡ 0 → layer.height ≡ 0 }
     requires within { LiesWithin target.size target.offset piece.now }
     ensures some { IfOk result (λ parts. 1 ≤ length parts) }
     ensures few { IfOk result (λ parts. length parts ≤ 1024) }
     ensures size { IfOk result (λ parts. sum_by (λ m. m.size) parts ≡ target.size) }
-    ensures gives { Agrees (S.seen store.old).told [] → Agrees (S.seen store.new).told []
-        → IfOk result (λ parts. GivesAll S.X.block32 layer.p (S.seen store.new).told [] layer.height parts
-        (groups (span layer.p.chunk layer.p.width layer.height) (overlaid target.size [] target.offset piece.now))) }
-    ensures lost { layer.rows ≤ 22 → Agrees (S.seen store.old).told [] → Agrees (S.seen store.new).told []
-        → Stood (S.seen store.old).faults (S.seen store.new).faults
-        → Stood (S.seen store.old).clashes (S.seen store.new).clashes
-        → IfErr result (IsLossOf (S.seen store.new).told []) }
-    ensures cause { Answers S.X.block32 (IsBadAmongOld S.X.block32 layer.p (S.seen store.new).told layer.rows
-        (min layer.top layer.height) []) result (S.seen store.old) (S.seen store.new) }
-    ensures good { KeepsGood S.X.block32 (S.seen store.old).told (S.seen store.new).told }
-    ensures saves { SavesOnly S.X.block32 (S.seen store.old).told (S.seen store.new).told }
+    ensures gives { MakesNewParts S.X.block32 layer target piece.now (S.seen store.old) (S.seen store.new) result }
+    ensures saves { SavesAmongOld S.X.block32 layer.p layer.rows (min layer.top layer.height) [] (S.seen store.old)
+        (S.seen store.new) result }
     ensures rises { Climbs result touches.old touches.new }
-    ensures touches { (a z : ℕ) → IsEditWithin layer.p.chunk 0 target.size target.offset (length piece.now) a z
-        → touches.new ≤ touches.old + 2 + 2 * (layer.height + 1) * (z - a) }
+    ensures touches { CostsNewParts layer target piece.now touches.old touches.new }
 {
     if target.size == 0 {
         let leaf = change_leaf(alloc, store, None, 0, 0, &[], touches)?;

@@ -1,22 +1,16 @@
 //! Files written into and cut.
-ghost use Rattle.std.specs.Prelude.{◌≡◌, ◌↔◌, ◌+◌, ◌-◌, ◌<◌, ◌≤◌, ◌^◌, ◌*◌, ◌&&◌, max, ℕ, List, [], length, nat_lt};
-ghost use Rattle.std.specs.Prelude.{IfErr, IfOk, IfSome, IsTrue, OnOk, Ok};
-ghost use Rattle.uf_edge.specs.Counts.{Stood};
-ghost use Rattle.uf_fileread.specs.Ranges.{IsFile};
-ghost use Rattle.uf_store.specs.Faults.{Answers};
-ghost use Rattle.uf_store.specs.Keeping.{Agrees, Holds, KeepsGood, StaysAgreed};
+ghost use Rattle.std.specs.Prelude.{◌≡◌, ◌↔◌, ◌+◌, ◌-◌, ◌<◌, ◌^◌, ◌*◌, ◌&&◌, max, [], length, nat_lt, IfSome, IsTrue};
+ghost use Rattle.std.specs.Prelude.{Ok};
+ghost use Rattle.uf_store.specs.Keeping.{KeepsGood};
 ghost use Rattle.uf_store.specs.Writing.{SavesOnly};
-ghost use Rattle.uf_store.specs.Lost.{AgreesAfter, IsLossOf};
-ghost use Rattle.uf_tree.specs.FilePlan.{file_plan};
 ghost use Rattle.uf_tree.specs.Profiles.{is_profile, most_bytes};
-ghost use Rattle.uf_fileedit.specs.Answers.{EditsOver, RefusesTooLong, ShownEdit};
-ghost use Rattle.uf_fileedit.specs.Bad.{IsBadEdited};
-ghost use Rattle.uf_fileedit.specs.Changes.{GivesFile, LiesWithin, overlaid, size_after as after_size};
+ghost use Rattle.uf_fileedit.specs.Answers.{RefusesTooLong};
+ghost use Rattle.uf_fileedit.specs.Changes.{LiesWithin, size_after as after_size};
 ghost use Rattle.uf_fileedit.specs.Edits.{cut_to, laid};
-ghost use Rattle.uf_fileedit.specs.Touches.{Climbs, IsEditWithin, TouchedFirst, cut_chunks, edit_touches};
-ghost use Rattle.uf_fileedit.specs.Touches.{written_chunks};
-ghost use Rattle.uf_tree.specs.FileSub.{IsFileHeight, IsHeight};
-ghost use Rattle.uf_tree.specs.declared.meta.Meta.{Meta as TheMeta};
+ghost use Rattle.uf_fileedit.specs.Touches.{Climbs, TouchedFirst};
+ghost use Rattle.uf_fileedit.specs.Files.{AgreesWithEdited, CostsCut, CostsEdit, CostsWrite, EditsFile, GivesEdited};
+ghost use Rattle.uf_fileedit.specs.Files.{HoldsEdited, LeavesSame, OfAgreed, RefusesLongWrite, SavesInFile};
+ghost use Rattle.uf_fileedit.specs.Files.{ShowsInEdited, edited_by};
 
 use crate::changing::PartEdit;
 use crate::growing::remade;
@@ -40,35 +34,19 @@ pub fn write_at<S: Store, L: Ledger>(
     touches: &mut Steps<L>,
 ) -> Result<Entry, BuildFault>
     requires profile { IsTrue (is_profile p.now) }
-    ensures long { RefusesTooLong (nat_lt 0 (length piece.now) && nat_lt (most_bytes p.now)
-        (offset + length piece.now)) result }
-    ensures value { (m : TheMeta) (b : List ℕ) (height : ℕ) → IsFile S.X.block32 p.now m b entry.now.cid height
-        → entry.now ≡ (file_plan S.X.block32 p.now m b).entry
-        → StaysAgreed (S.seen store.old).told (S.seen store.new).told (file_plan S.X.block32 p.now m b).blocks
-        → Stood (S.seen store.old).faults (S.seen store.new).faults
-        → Stood (S.seen store.old).clashes (S.seen store.new).clashes
-        → EditsOver (S.seen store.old).told (file_plan S.X.block32 p.now m b).blocks
-        (file_plan S.X.block32 p.now m (laid b offset piece.now)).entry result }
-    ensures after { (m : TheMeta) (b : List ℕ) (height : ℕ) → IsFile S.X.block32 p.now m b entry.now.cid height
-        → entry.now ≡ (file_plan S.X.block32 p.now m b).entry
-        → StaysAgreed (S.seen store.old).told (S.seen store.new).told (file_plan S.X.block32 p.now m b).blocks
-        → OnOk result (AgreesAfter (S.seen store.old).told (S.seen store.new).told
-        (file_plan S.X.block32 p.now m b).blocks (file_plan S.X.block32 p.now m (laid b offset piece.now)).blocks) }
-    ensures held { (m : TheMeta) (b : List ℕ) (height : ℕ) → IsFile S.X.block32 p.now m b entry.now.cid height
-        → entry.now ≡ (file_plan S.X.block32 p.now m b).entry → Agrees (S.seen store.old).told
-        (file_plan S.X.block32 p.now m b).blocks
-        → Holds (S.seen store.old).told (file_plan S.X.block32 p.now m b).blocks
-        → OnOk result (Holds (S.seen store.new).told (file_plan S.X.block32 p.now m (laid b offset piece.now)).blocks) }
-    ensures cause { ShownEdit S.X.block32 (IsBadEdited S.X.block32 p.now (S.seen store.new).told entry.now.cid) result
-        (S.seen store.old) (S.seen store.new) }
+    ensures long { RefusesLongWrite p.now offset piece.now result }
+    ensures value { EditsFile S.X.block32 p.now entry.now (λ b. laid b offset piece.now) (S.seen store.old)
+        (S.seen store.new) result }
+    ensures after { AgreesWithEdited S.X.block32 p.now entry.now (λ b. laid b offset piece.now) (S.seen store.old)
+        (S.seen store.new) result }
+    ensures held { HoldsEdited S.X.block32 p.now entry.now (λ b. laid b offset piece.now) (S.seen store.old)
+        (S.seen store.new) result }
+    ensures cause { ShowsInEdited S.X.block32 p.now entry.now.cid (S.seen store.old) (S.seen store.new) result }
     ensures good { KeepsGood S.X.block32 (S.seen store.old).told (S.seen store.new).told }
     ensures saves { SavesOnly S.X.block32 (S.seen store.old).told (S.seen store.new).told }
     ensures touched { TouchedFirst result touches.old touches.new }
-    ensures touches { (m : TheMeta) (b : List ℕ) (rows after : ℕ) → IsFile S.X.block32 p.now m b entry.now.cid rows
-        → Agrees (S.seen store.old).told (file_plan S.X.block32 p.now m b).blocks
-        → IsFileHeight p.now.chunk p.now.width m (length (laid b offset piece.now)) after
-        → touches.new ≤ touches.old + edit_touches (written_chunks p.now.chunk (length b) offset (length piece.now))
-        (max rows after) }
+    ensures touches { CostsWrite S.X.block32 p.now entry.now (S.seen store.old) offset piece.now touches.old
+        touches.new }
     ensures empty { piece.now ≡ [] → (result ≡ Ok entry.now) × (S.seen store.new ≡ S.seen store.old)
         × (touches.new ≡ touches.old) }
 {
@@ -98,35 +76,19 @@ pub fn truncate<S: Store, L: Ledger>(
 ) -> Result<Entry, BuildFault>
     requires profile { IsTrue (is_profile p.now) }
     ensures long { RefusesTooLong (nat_lt (most_bytes p.now) size) result }
-    ensures value { (m : TheMeta) (b : List ℕ) (height : ℕ) → IsFile S.X.block32 p.now m b entry.now.cid height
-        → entry.now ≡ (file_plan S.X.block32 p.now m b).entry
-        → StaysAgreed (S.seen store.old).told (S.seen store.new).told (file_plan S.X.block32 p.now m b).blocks
-        → Stood (S.seen store.old).faults (S.seen store.new).faults
-        → Stood (S.seen store.old).clashes (S.seen store.new).clashes
-        → EditsOver (S.seen store.old).told (file_plan S.X.block32 p.now m b).blocks
-        (file_plan S.X.block32 p.now m (cut_to b size)).entry result }
-    ensures after { (m : TheMeta) (b : List ℕ) (height : ℕ) → IsFile S.X.block32 p.now m b entry.now.cid height
-        → entry.now ≡ (file_plan S.X.block32 p.now m b).entry
-        → StaysAgreed (S.seen store.old).told (S.seen store.new).told (file_plan S.X.block32 p.now m b).blocks
-        → OnOk result (AgreesAfter (S.seen store.old).told (S.seen store.new).told
-        (file_plan S.X.block32 p.now m b).blocks (file_plan S.X.block32 p.now m (cut_to b size)).blocks) }
-    ensures held { (m : TheMeta) (b : List ℕ) (height : ℕ) → IsFile S.X.block32 p.now m b entry.now.cid height
-        → entry.now ≡ (file_plan S.X.block32 p.now m b).entry → Agrees (S.seen store.old).told
-        (file_plan S.X.block32 p.now m b).blocks
-        → Holds (S.seen store.old).told (file_plan S.X.block32 p.now m b).blocks
-        → OnOk result (Holds (S.seen store.new).told (file_plan S.X.block32 p.now m (cut_to b size)).blocks) }
-    ensures cause { ShownEdit S.X.block32 (IsBadEdited S.X.block32 p.now (S.seen store.new).told entry.now.cid) result
-        (S.seen store.old) (S.seen store.new) }
+    ensures value { EditsFile S.X.block32 p.now entry.now (λ b. cut_to b size) (S.seen store.old) (S.seen store.new)
+        result }
+    ensures after { AgreesWithEdited S.X.block32 p.now entry.now (λ b. cut_to b size) (S.seen store.old)
+        (S.seen store.new) result }
+    ensures held { HoldsEdited S.X.block32 p.now entry.now (λ b. cut_to b size) (S.seen store.old) (S.seen store.new)
+        result }
+    ensures cause { ShowsInEdited S.X.block32 p.now entry.now.cid (S.seen store.old) (S.seen store.new) result }
     ensures good { KeepsGood S.X.block32 (S.seen store.old).told (S.seen store.new).told }
     ensures saves { SavesOnly S.X.block32 (S.seen store.old).told (S.seen store.new).told }
     ensures touched { TouchedFirst result touches.old touches.new }
-    ensures touches { (m : TheMeta) (b : List ℕ) (rows after : ℕ) → IsFile S.X.block32 p.now m b entry.now.cid rows
-        → Agrees (S.seen store.old).told (file_plan S.X.block32 p.now m b).blocks
-        → IsFileHeight p.now.chunk p.now.width m size after
-        → touches.new ≤ touches.old + edit_touches (cut_chunks p.now.chunk (length b) size) (max rows after) }
-    ensures same { (m : TheMeta) (b : List ℕ) (rows : ℕ) → IsFile S.X.block32 p.now m b entry.now.cid rows
-        → Agrees (S.seen store.old).told (file_plan S.X.block32 p.now m b).blocks → length b ≡ size
-        → (S.seen store.new).told ≡ (S.seen store.old).told }
+    ensures touches { CostsCut S.X.block32 p.now entry.now (S.seen store.old) size touches.old touches.new }
+    ensures same { OfAgreed S.X.block32 p.now entry.now (S.seen store.old) (λ m b. length b ≡ size
+        → (S.seen store.new).told ≡ (S.seen store.old).told) }
 {
     let most = p.most_bytes();
     if size > most {
@@ -146,8 +108,8 @@ struct Extent {
     offset: u64,
 }
 
-// Cuts or fills a file to a length, or else to no less than the end of a piece, and lays the piece over it. The root is
-// loaded once, and the new one carries its metadata.
+// Cuts or fills a file to a length, or else to no less than the end of a piece, and lays the piece over it. The root
+// is loaded once, and the new one carries its metadata.
 fn edit<S: Store, L: Ledger>(
     alloc: Global,
     store: &mut S,
@@ -161,37 +123,14 @@ fn edit<S: Store, L: Ledger>(
     requires within { IfSome extent.wanted (λ n. LiesWithin n extent.offset piece.now) }
     requires small { IfSome extent.wanted (λ n. n < 2 ^ 63) }
     requires end { extent.offset + length piece.now < 2 ^ 63 }
-    ensures gives { (m : TheMeta) (b : List ℕ) (height : ℕ) → IsFile S.X.block32 p.now m b entry.now.cid height
-        → entry.now ≡ (file_plan S.X.block32 p.now m b).entry → Agrees (S.seen store.old).told
-        (file_plan S.X.block32 p.now m b).blocks
-        → Agrees (S.seen store.new).told (file_plan S.X.block32 p.now m b).blocks
-        → IfOk result (λ e. GivesFile S.X.block32 p.now m (S.seen store.new).told (file_plan S.X.block32 p.now m
-        b).blocks
-        e (overlaid (after_size (length b) extent.wanted extent.offset (length piece.now)) b extent.offset piece.now)) }
-    ensures lost { (m : TheMeta) (b : List ℕ) (height : ℕ) → IsFile S.X.block32 p.now m b entry.now.cid height
-        → entry.now ≡ (file_plan S.X.block32 p.now m b).entry → Agrees (S.seen store.old).told
-        (file_plan S.X.block32 p.now m b).blocks
-        → Agrees (S.seen store.new).told (file_plan S.X.block32 p.now m b).blocks
-        → Stood (S.seen store.old).faults (S.seen store.new).faults
-        → Stood (S.seen store.old).clashes (S.seen store.new).clashes
-        → IfErr result (IsLossOf (S.seen store.new).told (file_plan S.X.block32 p.now m b).blocks) }
-    ensures cause { Answers S.X.block32 (IsBadEdited S.X.block32 p.now (S.seen store.new).told entry.now.cid) result
-        (S.seen store.old) (S.seen store.new) }
-    ensures good { KeepsGood S.X.block32 (S.seen store.old).told (S.seen store.new).told }
-    ensures saves { SavesOnly S.X.block32 (S.seen store.old).told (S.seen store.new).told }
+    ensures gives { GivesEdited S.X.block32 p.now entry.now (edited_by extent.wanted extent.offset piece.now)
+        (S.seen store.old) (S.seen store.new) result }
+    ensures saves { SavesInFile S.X.block32 p.now entry.now.cid (S.seen store.old) (S.seen store.new) result }
     ensures touched { Climbs result touches.old touches.new }
-    ensures touches { (m : TheMeta) (b : List ℕ) (height rows after a z : ℕ)
-        → IsFile S.X.block32 p.now m b entry.now.cid height
-        → Agrees (S.seen store.old).told (file_plan S.X.block32 p.now m b).blocks
-        → IsHeight p.now.chunk p.now.width (length b) rows
-        → IsHeight p.now.chunk p.now.width (after_size (length b) extent.wanted extent.offset (length piece.now)) after
-        → IsEditWithin p.now.chunk (length b) (after_size (length b) extent.wanted extent.offset (length piece.now))
-        extent.offset (length piece.now) a z
-        → touches.new ≤ touches.old + 3 + (rows - after) + 2 * (after + 1) * (z - a) }
-    ensures same { (m : TheMeta) (b : List ℕ) (height : ℕ) → IsFile S.X.block32 p.now m b entry.now.cid height
-        → Agrees (S.seen store.old).told (file_plan S.X.block32 p.now m b).blocks
-        → length b ≡ after_size (length b) extent.wanted extent.offset (length piece.now) → length piece.now ≡ 0
-        → (S.seen store.new).told ≡ (S.seen store.old).told }
+    ensures touches { CostsEdit S.X.block32 p.now entry.now (S.seen store.old) extent.wanted extent.offset piece.now
+        touches.old touches.new }
+    ensures same { LeavesSame S.X.block32 p.now entry.now extent.wanted extent.offset piece.now (S.seen store.old)
+        (S.seen store.new) }
 {
     let root = root_of(alloc, store, p, entry, touches)?;
     let old = size_over(root.parts.as_slice());

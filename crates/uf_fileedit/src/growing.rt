@@ -1,20 +1,11 @@
 //! The parts below the root of a changed file, made of those below the old root.
-ghost use Rattle.std.specs.Prelude.{◌≡◌, ◌+◌, ◌-◌, ◌*◌, ◌<◌, ◌≤◌, ◌^◌, ℕ, List, [], ◌∷◌, length, min, IfErr, IfOk};
-ghost use Rattle.std.specs.Prelude.{IsTrue, Some};
+ghost use Rattle.std.specs.Prelude.{◌≡◌, ◌+◌, ◌-◌, ◌*◌, ◌<◌, ◌≤◌, ◌^◌, [], ◌∷◌, length, min, IfOk, IsTrue, Some};
 ghost use Rattle.std.specs.List.{sum_by};
-ghost use Rattle.uf_edge.specs.Counts.{Stood};
-ghost use Rattle.uf_store.specs.Faults.{Answers};
-ghost use Rattle.uf_store.specs.Keeping.{Agrees, KeepsGood};
-ghost use Rattle.uf_store.specs.Lost.{IsLossOf};
-ghost use Rattle.uf_store.specs.Writing.{SavesOnly};
-ghost use Rattle.uf_tree.specs.Cutting.{joined};
-ghost use Rattle.uf_tree.specs.FileSub.{span};
 ghost use Rattle.uf_tree.specs.Profiles.{is_profile};
-ghost use Rattle.uf_tree.specs.declared.nodes.Part.{Part as ThePart};
-ghost use Rattle.uf_fileedit.specs.Changes.{AreOld, HasSize, IsBlank, IsFirstOf, LiesWithin, LosesOfRoot, MakesRoot};
-ghost use Rattle.uf_fileedit.specs.Changes.{blocks_of_all};
-ghost use Rattle.uf_fileedit.specs.Touches.{AreBelow, IsChangeWithin};
-ghost use Rattle.uf_fileedit.specs.Ways.{IsBadAmongOld, StandAmong};
+ghost use Rattle.uf_fileedit.specs.Changes.{HasSize, LiesWithin};
+ghost use Rattle.uf_fileedit.specs.Ways.{StandAmong};
+ghost use Rattle.uf_fileedit.specs.Layers.{AreNoMore, CostsGrown, CostsRemade, FindsFirst, ReadsAmong, RemakesGrown};
+ghost use Rattle.uf_fileedit.specs.Layers.{RemakesRoot, SavesAmongOld, StandBelowFirst, room_at};
 
 use crate::changing::{PartEdit, change_parts, front_of};
 use crate::layout::{Layer, span_of};
@@ -41,29 +32,19 @@ pub fn remade<S: Store, L: Ledger>(
     requires profile { IsTrue (is_profile layer.p) }
     requires rows { 1 ≤ layer.top }
     requires olds { 1 ≤ length olds }
-    requires fits { target.size ≤ span layer.p.chunk layer.p.width (layer.height + 1) }
+    requires fits { target.size ≤ room_at layer.p (layer.height + 1) }
     requires small { target.size < 2 ^ 63 }
     requires low { target.size ≡ 0 → layer.height ≡ 0 }
-    requires more { layer.top ≤ layer.height → span layer.p.chunk layer.p.width layer.height < target.size }
+    requires more { layer.top ≤ layer.height → room_at layer.p layer.height < target.size }
     requires within { LiesWithin target.size target.offset piece.now }
     ensures some { IfOk result (λ parts. 1 ≤ length parts) }
     ensures few { IfOk result (λ parts. length parts ≤ 1024) }
     ensures size { IfOk result (λ parts. sum_by (λ m. m.size) parts ≡ target.size) }
-    ensures gives { MakesRoot S.X.block32 layer.p layer.top (layer.top - 1) layer.height olds target piece.now
-        (S.seen store.old).told (S.seen store.new).told result }
-    ensures lost { layer.rows ≤ 22 → LosesOfRoot S.X.block32 layer.p layer.top (layer.top - 1) olds (S.seen store.old)
+    ensures gives { RemakesRoot S.X.block32 layer olds target piece.now (S.seen store.old) (S.seen store.new) result }
+    ensures saves { SavesAmongOld S.X.block32 layer.p layer.rows (layer.top - 1) olds (S.seen store.old)
         (S.seen store.new) result }
-    ensures cause { Answers S.X.block32 (IsBadAmongOld S.X.block32 layer.p (S.seen store.new).told layer.rows
-        (layer.top - 1) olds) result (S.seen store.old) (S.seen store.new) }
-    ensures good { KeepsGood S.X.block32 (S.seen store.old).told (S.seen store.new).told }
-    ensures saves { SavesOnly S.X.block32 (S.seen store.old).told (S.seen store.new).told }
     ensures rises { touches.old ≤ touches.new }
-    ensures touches { (whole first : ThePart) (a z : ℕ) → whole.size ≤ span layer.p.chunk layer.p.width layer.top
-        → AreBelow (span layer.p.chunk layer.p.width (layer.top - 1)) (Some whole) olds → target.old ≡ Some first
-        → first.size ≡ min whole.size (span layer.p.chunk layer.p.width (layer.height + 1))
-        → IsChangeWithin layer.p layer.top (layer.height + 1) target.old target.size target.offset (length piece.now)
-        a z
-        → a < z → touches.new ≤ touches.old + (layer.top - 1 - layer.height) + 1 + 2 * (layer.height + 1) * (z - a) }
+    ensures touches { CostsRemade layer target olds piece.now touches.old touches.new }
 {
     if target.size == 0 {
         let leaf = change_leaf(alloc, store, None, 0, 0, &[], touches)?;
@@ -120,24 +101,12 @@ fn front_parts<S: Store, L: Ledger>(
 ) -> Result<Parts, StoreFault>
     requires profile { IsTrue (is_profile layer.p) }
     requires olds { 1 ≤ length olds }
-    ensures gives { (gs : List (List ℕ)) → AreOld S.X.block32 layer.p (span layer.p.chunk layer.p.width (layer.top - 1))
-        (layer.top - 1) olds gs → Agrees (S.seen store.old).told (blocks_of_all S.X.block32 layer.p (layer.top - 1) gs)
-        → IfOk result (λ parts. IsFirstOf S.X.block32 layer.p (layer.height + 1) (min (layer.top - 1) layer.height)
-        (blocks_of_all S.X.block32 layer.p (layer.top - 1) gs) parts (joined gs)) }
-    ensures lost { (gs : List (List ℕ)) → layer.rows ≤ 22
-        → AreOld S.X.block32 layer.p (span layer.p.chunk layer.p.width (layer.top - 1)) (layer.top - 1) olds gs
-        → Agrees (S.seen store.old).told (blocks_of_all S.X.block32 layer.p (layer.top - 1) gs)
-        → Stood (S.seen store.old).faults (S.seen store.new).faults
-        → IfErr result (IsLossOf (S.seen store.old).told (blocks_of_all S.X.block32 layer.p (layer.top - 1) gs)) }
-    ensures cause { Answers S.X.block32 (IsBadAmongOld S.X.block32 layer.p (S.seen store.new).told layer.rows
-        (layer.top - 1) olds) result (S.seen store.old) (S.seen store.new) }
+    ensures gives { FindsFirst S.X.block32 layer olds (S.seen store.old) (S.seen store.new) result }
     ensures stand { IfOk result (StandAmong S.X.block32 layer.p (S.seen store.old).told layer.rows (layer.top - 1) olds
         (min (layer.top - 1) layer.height)) }
-    ensures told { (S.seen store.new).told ≡ (S.seen store.old).told }
-    ensures below { (whole first : ThePart) → whole.size ≤ span layer.p.chunk layer.p.width layer.top
-        → AreBelow (span layer.p.chunk layer.p.width (layer.top - 1)) (Some whole) olds
-        → first.size ≡ min whole.size (span layer.p.chunk layer.p.width (layer.height + 1))
-        → IfOk result (AreBelow (span layer.p.chunk layer.p.width (min (layer.top - 1) layer.height)) (Some first)) }
+    ensures reads { ReadsAmong S.X.block32 layer.p layer.rows (layer.top - 1) olds (S.seen store.old)
+        (S.seen store.new) result }
+    ensures below { StandBelowFirst layer olds result }
     ensures rises { touches.old ≤ touches.new }
     ensures touches { touches.new ≤ touches.old + (layer.top - 1 - layer.height) }
 {
@@ -178,29 +147,17 @@ fn grown<S: Store, L: Ledger>(
     requires profile { IsTrue (is_profile layer.p) }
     requires rows { 1 ≤ layer.top }
     requires size { HasSize layer.p (layer.height + 1) target.size }
-    requires more { layer.top ≤ layer.height → span layer.p.chunk layer.p.width layer.height < target.size }
+    requires more { layer.top ≤ layer.height → room_at layer.p layer.height < target.size }
     requires within { LiesWithin target.size target.offset piece.now }
     ensures some { IfOk result (λ parts. 1 ≤ length parts) }
-    ensures room { IfOk result (λ parts. length parts * span layer.p.chunk layer.p.width layer.height
-        < target.size + span layer.p.chunk layer.p.width layer.height) }
+    ensures room { IfOk result (AreNoMore layer.p layer.height target.size) }
     ensures size { IfOk result (λ parts. sum_by (λ m. m.size) parts ≡ target.size) }
-    ensures gives { IsBlank S.X.block32 layer.p (S.seen store.old).told 0 layer.zeros
-        → MakesRoot S.X.block32 layer.p layer.top (min (layer.top - 1) layer.height) layer.height olds.now target
-        piece.now
-        (S.seen store.old).told (S.seen store.new).told result }
-    ensures lost { layer.rows ≤ 22
-        → LosesOfRoot S.X.block32 layer.p layer.top (min (layer.top - 1) layer.height) olds.now
+    ensures gives { RemakesGrown S.X.block32 layer olds.now target piece.now (S.seen store.old) (S.seen store.new)
+        result }
+    ensures saves { SavesAmongOld S.X.block32 layer.p layer.rows (min (layer.top - 1) layer.height) olds.now
         (S.seen store.old) (S.seen store.new) result }
-    ensures cause { Answers S.X.block32 (IsBadAmongOld S.X.block32 layer.p (S.seen store.new).told layer.rows
-        (min (layer.top - 1) layer.height) olds.now) result (S.seen store.old) (S.seen store.new) }
-    ensures good { KeepsGood S.X.block32 (S.seen store.old).told (S.seen store.new).told }
-    ensures saves { SavesOnly S.X.block32 (S.seen store.old).told (S.seen store.new).told }
     ensures rises { touches.old ≤ touches.new }
-    ensures touches { (first : ThePart) (a z : ℕ) → target.old ≡ Some first
-        → IsChangeWithin layer.p layer.top (layer.height + 1) target.old target.size target.offset (length piece.now)
-        a z
-        → AreBelow (span layer.p.chunk layer.p.width (min (layer.top - 1) layer.height)) target.old olds.now
-        → touches.new ≤ touches.old + 2 * (layer.height + 1) * (z - a) }
+    ensures touches { CostsGrown layer target olds.now piece.now touches.old touches.new }
 {
     if layer.height < layer.top {
         return change_parts(alloc, store, layer, target, olds, piece, touches);

@@ -1,18 +1,14 @@
 //! Pieces of a file changed.
-ghost use Rattle.std.specs.Prelude.{◌≡◌, ◌+◌, ◌-◌, ◌<◌, ◌≤◌, ◌^◌, ◌++◌, ℕ, List, [], ◌∷◌, length, take, drop};
-ghost use Rattle.std.specs.Prelude.{replicate, IfErr, IfOk, OnErr, OnOk, Some};
-ghost use Rattle.uf_edge.specs.Counts.{Stood};
-ghost use Rattle.uf_store.specs.Clashes.{IsSaving};
-ghost use Rattle.uf_store.specs.Faults.{Answers, NoneIsBad};
-ghost use Rattle.uf_store.specs.Keeping.{Agrees, Holds, KeepsGood};
-ghost use Rattle.uf_store.specs.Writing.{SavesOnly};
-ghost use Rattle.uf_store.specs.Lost.{IsLossOf};
+ghost use Rattle.std.specs.Prelude.{◌≡◌, ◌+◌, ◌-◌, ◌<◌, ◌≤◌, ◌^◌, ◌++◌, [], ◌∷◌, length, take, drop, IfOk, OnOk};
+ghost use Rattle.std.specs.Prelude.{Some};
+ghost use Rattle.uf_store.specs.Keeping.{Holds};
 ghost use Rattle.uf_tree.specs.FilePlan.{leaf_held, leaf_part};
 ghost use Rattle.uf_tree.specs.declared.profile.Profile.{Profile};
 ghost use Rattle.uf_fileedit.specs.Edits.{cut_to};
 ghost use Rattle.uf_fileedit.specs.Touches.{Climbs};
-ghost use Rattle.uf_fileedit.specs.Changes.{GivesPart, IsBlank, IsOld, IsOldPart, LiesWithin, overlaid, old_blocks};
-ghost use Rattle.uf_fileedit.specs.Ways.{IsBadOld};
+ghost use Rattle.uf_fileedit.specs.Changes.{IsBlank, LiesWithin, overlaid};
+ghost use Rattle.uf_fileedit.specs.Layers.{LosesOneOld, LosesPiece, OfOldPiece, OfOneOld, ReadsPiece, RemakesPiece};
+ghost use Rattle.uf_fileedit.specs.Layers.{SavesBlocks, SavesPiece};
 
 use std::alloc::Global;
 use std::sync::ledger::Ledger;
@@ -34,21 +30,8 @@ pub fn change_leaf<S: Store, L: Ledger>(
     requires size { size ≤ 2097152 }
     requires within { LiesWithin size offset piece.now }
     ensures size { IfOk result (λ m. m.size ≡ size) }
-    ensures gives { (p : Profile) (b : List ℕ) → IsOld S.X.block32 p 0 old b
-        → Agrees (S.seen store.old).told (old_blocks S.X.block32 p 0 old b)
-        → Agrees (S.seen store.new).told (old_blocks S.X.block32 p 0 old b)
-        → IfOk result (λ m. GivesPart S.X.block32 p (S.seen store.new).told (old_blocks S.X.block32 p 0 old b) 0 m
-        (overlaid size b offset piece.now)) }
-    ensures lost { (p : Profile) (b : List ℕ) → IsOld S.X.block32 p 0 old b
-        → Agrees (S.seen store.old).told (old_blocks S.X.block32 p 0 old b)
-        → Agrees (S.seen store.new).told (old_blocks S.X.block32 p 0 old b)
-        → Stood (S.seen store.old).faults (S.seen store.new).faults
-        → Stood (S.seen store.old).clashes (S.seen store.new).clashes
-        → IfErr result (IsLossOf (S.seen store.new).told (old_blocks S.X.block32 p 0 old b)) }
-    ensures cause { (p : Profile) (rows : ℕ) → Answers S.X.block32 (IsBadOld S.X.block32 p (S.seen store.new).told
-        rows 0 old) result (S.seen store.old) (S.seen store.new) }
-    ensures good { KeepsGood S.X.block32 (S.seen store.old).told (S.seen store.new).told }
-    ensures saves { SavesOnly S.X.block32 (S.seen store.old).told (S.seen store.new).told }
+    ensures gives { RemakesPiece S.X.block32 old size offset piece.now (S.seen store.old) (S.seen store.new) result }
+    ensures saves { SavesPiece S.X.block32 old (S.seen store.old) (S.seen store.new) result }
     ensures rises { Climbs result touches.old touches.new }
     ensures touches { touches.new ≤ touches.old + 2 }
 {
@@ -71,10 +54,7 @@ pub fn save_zeros<S: Store, L: Ledger>(
     requires from { from < 2 ^ 63 }
     ensures blank { (p : Profile) → IfOk result (IsBlank S.X.block32 p (S.seen store.new).told 0) }
     ensures none { to ≤ from → (S.seen store.new).told ≡ (S.seen store.old).told }
-    ensures cause { Answers S.X.block32 NoneIsBad result (S.seen store.old) (S.seen store.new) }
-    ensures fault { IfErr result IsSaving }
-    ensures good { KeepsGood S.X.block32 (S.seen store.old).told (S.seen store.new).told }
-    ensures saves { SavesOnly S.X.block32 (S.seen store.old).told (S.seen store.new).told }
+    ensures saves { SavesBlocks S.X.block32 (S.seen store.old) (S.seen store.new) result }
     ensures rises { touches.old ≤ touches.new }
     ensures touches { touches.new ≤ touches.old + 1 }
 {
@@ -96,10 +76,7 @@ fn save_leaf<S: Store, L: Ledger>(
     requires size { length bytes.now ≤ 2097152 }
     ensures part { IfOk result (λ m. m ≡ leaf_part S.X.block32 bytes.now) }
     ensures held { OnOk result (Holds (S.seen store.new).told (leaf_held S.X.block32 bytes.now ∷ [])) }
-    ensures cause { Answers S.X.block32 NoneIsBad result (S.seen store.old) (S.seen store.new) }
-    ensures fault { IfErr result IsSaving }
-    ensures good { KeepsGood S.X.block32 (S.seen store.old).told (S.seen store.new).told }
-    ensures saves { SavesOnly S.X.block32 (S.seen store.old).told (S.seen store.new).told }
+    ensures saves { SavesBlocks S.X.block32 (S.seen store.old) (S.seen store.new) result }
     ensures touches { touches.new ≡ touches.old + 1 }
 {
     let size = bytes.len() as u64;
@@ -122,19 +99,11 @@ fn leaf_bytes<S: Store, L: Ledger>(
     touches: &mut Steps<L>,
 ) -> Result<Vec<u8>, StoreFault>
     requires within { LiesWithin size offset piece.now }
-    ensures bytes { (p : Profile) (b : List ℕ) → IsOld S.X.block32 p 0 old b
-        → Agrees (S.seen store.old).told (old_blocks S.X.block32 p 0 old b)
-        → Agrees (S.seen store.new).told (old_blocks S.X.block32 p 0 old b)
-        → IfOk result (λ v. v.items ≡ overlaid size b offset piece.now) }
+    ensures bytes { OfOldPiece S.X.block32 old (S.seen store.old) (S.seen store.new) (λ p b. IfOk result
+        (λ v. v.items ≡ overlaid size b offset piece.now)) }
     ensures size { IfOk result (λ v. length v.items ≡ size) }
-    ensures lost { (p : Profile) (b : List ℕ) → IsOld S.X.block32 p 0 old b
-        → Agrees (S.seen store.old).told (old_blocks S.X.block32 p 0 old b)
-        → Agrees (S.seen store.new).told (old_blocks S.X.block32 p 0 old b)
-        → Stood (S.seen store.old).faults (S.seen store.new).faults
-        → IfErr result (IsLossOf (S.seen store.new).told (old_blocks S.X.block32 p 0 old b)) }
-    ensures cause { (p : Profile) (rows : ℕ) → Answers S.X.block32 (IsBadOld S.X.block32 p (S.seen store.new).told
-        rows 0 old) result (S.seen store.old) (S.seen store.new) }
-    ensures told { (S.seen store.new).told ≡ (S.seen store.old).told }
+    ensures lost { LosesPiece S.X.block32 old (S.seen store.old) (S.seen store.new) result }
+    ensures reads { ReadsPiece S.X.block32 old (S.seen store.old) (S.seen store.new) result }
     ensures rises { Climbs result touches.old touches.new }
     ensures touches { touches.new ≤ touches.old + 1 }
 {
@@ -157,19 +126,11 @@ fn over_block<S: Store, L: Ledger>(
     touches: &mut Steps<L>,
 ) -> Result<Vec<u8>, StoreFault>
     requires within { LiesWithin size offset piece.now }
-    ensures bytes { (p : Profile) (b : List ℕ) → IsOldPart S.X.block32 p 0 part.now b
-        → Agrees (S.seen store.old).told (leaf_held S.X.block32 b ∷ [])
-        → Agrees (S.seen store.new).told (leaf_held S.X.block32 b ∷ [])
-        → IfOk result (λ v. v.items ≡ overlaid size b offset piece.now) }
+    ensures bytes { OfOneOld S.X.block32 part.now (S.seen store.old) (S.seen store.new) (λ b. IfOk result
+        (λ v. v.items ≡ overlaid size b offset piece.now)) }
     ensures size { IfOk result (λ v. length v.items ≡ size) }
-    ensures lost { (p : Profile) (b : List ℕ) → IsOldPart S.X.block32 p 0 part.now b
-        → Agrees (S.seen store.old).told (leaf_held S.X.block32 b ∷ [])
-        → Agrees (S.seen store.new).told (leaf_held S.X.block32 b ∷ [])
-        → Stood (S.seen store.old).faults (S.seen store.new).faults
-        → IfErr result (IsLossOf (S.seen store.new).told (leaf_held S.X.block32 b ∷ [])) }
-    ensures cause { (p : Profile) (rows : ℕ) → Answers S.X.block32 (IsBadOld S.X.block32 p (S.seen store.new).told
-        rows 0 (Some part.now)) result (S.seen store.old) (S.seen store.new) }
-    ensures told { (S.seen store.new).told ≡ (S.seen store.old).told }
+    ensures lost { LosesOneOld S.X.block32 part.now (S.seen store.old) (S.seen store.new) result }
+    ensures reads { ReadsPiece S.X.block32 (Some part.now) (S.seen store.old) (S.seen store.new) result }
     ensures touches { touches.new ≡ touches.old + 1 }
 {
     let cid = part.entry.cid;

@@ -1,19 +1,18 @@
 //! The metadata of files.
-ghost use Rattle.std.specs.Prelude.{◌≡◌, ◌+◌, ◌≤◌, ℕ, List, [], ◌∷◌, IsTrue, OnOk};
+ghost use Rattle.std.specs.Prelude.{◌≡◌, ◌+◌, ◌≤◌, ℕ, List, [], ◌∷◌, IsTrue};
 ghost use Rattle.uf_cid.specs.Blocks.{Held};
 ghost use Rattle.uf_edge.specs.Counts.{Stood};
 ghost use Rattle.uf_fileread.specs.Bad.{IsBadRoot};
-ghost use Rattle.uf_fileread.specs.Ranges.{IsFile};
 ghost use Rattle.uf_store.specs.Faults.{Answers};
-ghost use Rattle.uf_store.specs.Keeping.{Agrees, Holds, KeepsGood, StaysAgreed};
-ghost use Rattle.uf_store.specs.Lost.{AgreesAfter, FindsOver, ReadsOver};
+ghost use Rattle.uf_store.specs.Keeping.{Agrees, KeepsGood};
+ghost use Rattle.uf_store.specs.Lost.{FindsOver};
 ghost use Rattle.uf_store.specs.Writing.{SavesOnly};
-ghost use Rattle.uf_tree.specs.FilePlan.{file_plan};
 ghost use Rattle.uf_tree.specs.Metas.{is_meta};
-ghost use Rattle.uf_tree.specs.Roots.{IsFileRoot, root_over};
+ghost use Rattle.uf_tree.specs.Roots.{IsFileRoot};
 ghost use Rattle.uf_tree.specs.declared.meta.Meta.{Meta as TheMeta};
 ghost use Rattle.uf_tree.specs.declared.profile.Profile.{Profile};
 ghost use Rattle.uf_fileedit.specs.Touches.{Climbs};
+ghost use Rattle.uf_fileedit.specs.Files.{AgreesWithMeta, HoldsWithMeta, LeavesWithMeta, SetsMeta};
 
 use crate::root::{load_root, save_over};
 use std::alloc::Global;
@@ -52,33 +51,15 @@ pub fn set_meta<S: Store, L: Ledger>(
     touches: &mut Steps<L>,
 ) -> Result<Entry, StoreFault>
     requires good { IsTrue (is_meta meta.now) }
-    ensures value { (p : Profile) (m : TheMeta) (b : List ℕ) (height : ℕ)
-        → IsFile S.X.block32 p m b entry.now.cid height
-        → entry.now ≡ (file_plan S.X.block32 p m b).entry
-        → Agrees (S.seen store.old).told (file_plan S.X.block32 p m b).blocks
-        → Stood (S.seen store.old).faults (S.seen store.new).faults
-        → Stood (S.seen store.old).clashes (S.seen store.new).clashes
-        → ReadsOver (S.seen store.old).told (root_over S.X.block32 p.chunk p.width m height b ∷ [])
-        (file_plan S.X.block32 p meta.now b).entry result }
-    ensures after { (p : Profile) (m : TheMeta) (b : List ℕ) (height : ℕ)
-        → IsFile S.X.block32 p m b entry.now.cid height
-        → entry.now ≡ (file_plan S.X.block32 p m b).entry
-        → StaysAgreed (S.seen store.old).told (S.seen store.new).told (file_plan S.X.block32 p m b).blocks
-        → OnOk result (AgreesAfter (S.seen store.old).told (S.seen store.new).told
-        (file_plan S.X.block32 p m b).blocks (file_plan S.X.block32 p meta.now b).blocks) }
-    ensures held { (p : Profile) (m : TheMeta) (b : List ℕ) (height : ℕ) → IsFile S.X.block32 p m b entry.now.cid height
-        → entry.now ≡ (file_plan S.X.block32 p m b).entry
-        → Agrees (S.seen store.old).told (file_plan S.X.block32 p m b).blocks
-        → Holds (S.seen store.old).told (file_plan S.X.block32 p m b).blocks
-        → OnOk result (Holds (S.seen store.new).told (file_plan S.X.block32 p meta.now b).blocks) }
+    ensures value { SetsMeta S.X.block32 entry.now meta.now (S.seen store.old) (S.seen store.new) result }
+    ensures after { AgreesWithMeta S.X.block32 entry.now meta.now (S.seen store.old) (S.seen store.new) result }
+    ensures held { HoldsWithMeta S.X.block32 entry.now meta.now (S.seen store.old) (S.seen store.new) result }
     ensures cause { Answers S.X.block32 IsBadRoot result (S.seen store.old) (S.seen store.new) }
     ensures good { KeepsGood S.X.block32 (S.seen store.old).told (S.seen store.new).told }
     ensures saves { SavesOnly S.X.block32 (S.seen store.old).told (S.seen store.new).told }
     ensures touched { Climbs result touches.old touches.new }
     ensures touches { touches.new ≤ touches.old + 2 }
-    ensures same { (p : Profile) (b : List ℕ) (height : ℕ) → IsFile S.X.block32 p meta.now b entry.now.cid height
-        → Agrees (S.seen store.old).told (file_plan S.X.block32 p meta.now b).blocks
-        → (S.seen store.new).told ≡ (S.seen store.old).told }
+    ensures same { LeavesWithMeta S.X.block32 entry.now meta.now (S.seen store.old) (S.seen store.new) }
 {
     let root = load_root(alloc, store, entry, touches)?;
     if root.meta == *meta {

@@ -1,19 +1,13 @@
 //! Old nodes of a file below its root.
-ghost use Rattle.std.specs.Prelude.{◌≡◌, ◌↔◌, ◌+◌, ◌≤◌, ℕ, List, [], ◌∷◌, length, min, IfErr, IfOk, IsTrue, Some};
-ghost use Rattle.uf_edge.specs.Counts.{Stood};
+ghost use Rattle.std.specs.Prelude.{◌≡◌, ◌↔◌, ◌+◌, ◌≤◌, [], ◌∷◌, length, min, IfOk, IsTrue, Some};
 ghost use Rattle.uf_fileread.specs.Parts.{parts_block};
-ghost use Rattle.uf_store.specs.Faults.{Answers};
-ghost use Rattle.uf_store.specs.Keeping.{Agrees};
-ghost use Rattle.uf_store.specs.Lost.{IsLossOf};
 ghost use Rattle.uf_tree.specs.Codecs.{Reads};
-ghost use Rattle.uf_tree.specs.FilePlan.{groups};
-ghost use Rattle.uf_tree.specs.FileSub.{blocks_over, span};
 ghost use Rattle.uf_tree.specs.Metas.{none};
 ghost use Rattle.uf_tree.specs.Profiles.{is_profile};
-ghost use Rattle.uf_fileedit.specs.Changes.{AreOld, IsBelow, IsOld, IsOldPart, old_blocks};
 ghost use Rattle.uf_fileedit.specs.Planned.{IsPlannedNode, are_planned as planned_of};
-ghost use Rattle.uf_fileedit.specs.Touches.{AreBelow, Climbs, old_size};
-ghost use Rattle.uf_fileedit.specs.Ways.{IsBadOld, StandBelow};
+ghost use Rattle.uf_fileedit.specs.Touches.{Climbs};
+ghost use Rattle.uf_fileedit.specs.Layers.{AreBelowOld, FindsBelow, FindsNode, ReadsIn, ReadsOld, StandsFrom};
+ghost use Rattle.uf_fileedit.specs.Layers.{room_at};
 
 use crate::layout::{Layer, are_planned};
 use std::alloc::Global;
@@ -38,22 +32,11 @@ pub fn load_parts<S: Store, L: Ledger>(
 ) -> Result<Parts, StoreFault>
     requires profile { IsTrue (is_profile p.now) }
     ensures some { IfOk result (λ parts. 1 ≤ length parts) }
-    ensures planned { IfOk result (λ parts. IsTrue (planned_of (span p.now.chunk p.now.width height) height
-        part.now.size parts)) }
-    ensures gives { (b : List ℕ) → IsOldPart S.X.block32 p.now (height + 1) part.now b
-        → Agrees (S.seen store.old).told (blocks_over S.X.block32 p.now.chunk p.now.width (height + 1) b)
-        → IfOk result (λ parts. AreOld S.X.block32 p.now (span p.now.chunk p.now.width height) height parts
-        (groups (span p.now.chunk p.now.width height) b)) }
-    ensures lost { (b : List ℕ) → rows ≤ 22 → IsOldPart S.X.block32 p.now (height + 1) part.now b
-        → Agrees (S.seen store.old).told (blocks_over S.X.block32 p.now.chunk p.now.width (height + 1) b)
-        → Stood (S.seen store.old).faults (S.seen store.new).faults
-        → IfErr result (IsLossOf (S.seen store.old).told (blocks_over S.X.block32 p.now.chunk p.now.width (height + 1)
-        b)) }
-    ensures cause { Answers S.X.block32 (IsBadOld S.X.block32 p.now (S.seen store.new).told rows (height + 1)
-        (Some part.now)) result (S.seen store.old) (S.seen store.new) }
-    ensures stand { IfOk result (StandBelow S.X.block32 p.now (S.seen store.old).told rows (height + 1)
-        (Some part.now) height) }
-    ensures told { (S.seen store.new).told ≡ (S.seen store.old).told }
+    ensures planned { IfOk result (λ parts. IsTrue (planned_of (room_at p.now height) height part.now.size parts)) }
+    ensures gives { FindsNode S.X.block32 p.now rows height part.now (S.seen store.old) (S.seen store.new) result }
+    ensures stand { StandsFrom S.X.block32 p.now rows (height + 1) (Some part.now) height (S.seen store.old) result }
+    ensures reads { ReadsOld S.X.block32 p.now rows (height + 1) (Some part.now) (S.seen store.old) (S.seen store.new)
+        result }
     ensures touches { touches.new ≡ touches.old + 1 }
 {
     let cid = part.entry.cid;
@@ -106,23 +89,11 @@ pub fn parts_below<S: Store, L: Ledger>(
     touches: &mut Steps<L>,
 ) -> Result<Parts, StoreFault>
     requires profile { IsTrue (is_profile layer.p) }
-    ensures gives { (b : List ℕ) → IsOld S.X.block32 layer.p (min layer.top (layer.height + 1)) old b
-        → Agrees (S.seen store.old).told (old_blocks S.X.block32 layer.p (min layer.top (layer.height + 1)) old b)
-        → IfOk result (λ parts. IsBelow S.X.block32 layer.p layer.top layer.height
-        (old_blocks S.X.block32 layer.p (min layer.top (layer.height + 1)) old b) parts b) }
-    ensures lost { (b : List ℕ) → layer.rows ≤ 22
-        → IsOld S.X.block32 layer.p (min layer.top (layer.height + 1)) old b
-        → Agrees (S.seen store.old).told (old_blocks S.X.block32 layer.p (min layer.top (layer.height + 1)) old b)
-        → Stood (S.seen store.old).faults (S.seen store.new).faults
-        → IfErr result (IsLossOf (S.seen store.old).told
-        (old_blocks S.X.block32 layer.p (min layer.top (layer.height + 1)) old b)) }
-    ensures cause { Answers S.X.block32 (IsBadOld S.X.block32 layer.p (S.seen store.new).told layer.rows
-        (min layer.top (layer.height + 1)) old) result (S.seen store.old) (S.seen store.new) }
-    ensures stand { IfOk result (StandBelow S.X.block32 layer.p (S.seen store.old).told layer.rows
-        (min layer.top (layer.height + 1)) old (min layer.top layer.height)) }
-    ensures told { (S.seen store.new).told ≡ (S.seen store.old).told }
-    ensures below { old_size old ≤ span layer.p.chunk layer.p.width (min layer.top (layer.height + 1))
-        → IfOk result (AreBelow (span layer.p.chunk layer.p.width layer.height) old) }
+    ensures gives { FindsBelow S.X.block32 layer old (S.seen store.old) (S.seen store.new) result }
+    ensures stand { StandsFrom S.X.block32 layer.p layer.rows (min layer.top (layer.height + 1)) old
+        (min layer.top layer.height) (S.seen store.old) result }
+    ensures reads { ReadsIn S.X.block32 layer (layer.height + 1) old (S.seen store.old) (S.seen store.new) result }
+    ensures below { AreBelowOld layer old result }
     ensures rises { Climbs result touches.old touches.new }
     ensures touches { touches.new ≤ touches.old + 1 }
 {

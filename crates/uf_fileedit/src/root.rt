@@ -1,28 +1,20 @@
 //! The root of a file, and what stands below it.
-ghost use Rattle.std.specs.Prelude.{◌≡◌, ◌↔◌, ◌+◌, ◌<◌, ◌≤◌, ◌^◌, ◌&&◌, ℕ, List, [], ◌∷◌, length, sum, IfErr, IfOk};
-ghost use Rattle.std.specs.Prelude.{IsTrue, OnErr, OnOk};
+ghost use Rattle.std.specs.Prelude.{◌≡◌, ◌↔◌, ◌+◌, ◌<◌, ◌≤◌, ◌^◌, ◌&&◌, length, sum, IfOk, IsTrue, OnErr, OnOk};
 ghost use Rattle.std.specs.List.{sum_by};
 ghost use Rattle.uf_cid.specs.declared.cid.Codec.TheVariants.{DagPb};
-ghost use Rattle.uf_edge.specs.Counts.{Stood};
 ghost use Rattle.uf_fileread.specs.Bad.{IsBadRoot};
-ghost use Rattle.uf_fileread.specs.Ranges.{IsFile};
-ghost use Rattle.uf_store.specs.Clashes.{IsSaving};
-ghost use Rattle.uf_store.specs.Faults.{Answers, NoneIsBad};
-ghost use Rattle.uf_store.specs.Keeping.{Agrees, Holds, KeepsGood};
-ghost use Rattle.uf_store.specs.Lost.{IsLossOf};
-ghost use Rattle.uf_store.specs.Writing.{SavesOnly};
-ghost use Rattle.uf_tree.specs.FilePlan.{node_over, top_held, top_part};
+ghost use Rattle.uf_store.specs.Faults.{Answers};
+ghost use Rattle.uf_store.specs.Keeping.{Holds};
+ghost use Rattle.uf_tree.specs.FilePlan.{top_held, top_part};
 ghost use Rattle.uf_tree.specs.FileSub.{span};
 ghost use Rattle.uf_tree.specs.Metas.{is_meta};
 ghost use Rattle.uf_tree.specs.Profiles.{is_profile};
-ghost use Rattle.uf_tree.specs.Roots.{root_over};
-ghost use Rattle.uf_tree.specs.declared.meta.Meta.{Meta as TheMeta};
-ghost use Rattle.uf_tree.specs.declared.profile.Profile.{Profile as TheProfile};
-ghost use Rattle.uf_fileedit.specs.Bad.{IsBadEdited};
 ghost use Rattle.uf_fileedit.specs.Planned.{IsLaidOut, are_planned as planned_of, bytes_over};
 ghost use Rattle.uf_fileedit.specs.Planned.{is_of_height as height_of_codec, leaf_alone, role_at, single_root};
-ghost use Rattle.uf_fileedit.specs.Roots.{IsBase, IsRootOf, IsRootOver, SaysRoot, whole_leaf};
+ghost use Rattle.uf_fileedit.specs.Roots.{IsBase, SaysRoot, whole_leaf};
 ghost use Rattle.uf_fileedit.specs.Ways.{StandUnderRoot};
+ghost use Rattle.uf_fileedit.specs.Files.{FindsRoot, FindsSomeRoot, ReadsInFile};
+ghost use Rattle.uf_fileedit.specs.Layers.{SavesBlocks};
 
 use crate::layout::{are_planned, height_of, is_of_height};
 use std::alloc::Global;
@@ -45,17 +37,9 @@ pub fn root_of<S: Store, L: Ledger>(
     ensures base { IfOk result IsBase }
     ensures good { IfOk result (λ root. IsTrue (is_meta root.meta)) }
     ensures laid { IfOk result (IsLaidOut p.now entry.now.cid.codec) }
-    ensures gives { (m : TheMeta) (b : List ℕ) (height : ℕ) → IsFile S.X.block32 p.now m b entry.now.cid height
-        → Agrees (S.seen store.old).told (root_over S.X.block32 p.now.chunk p.now.width m height b ∷ [])
-        → IfOk result (IsRootOver S.X.block32 p.now m b) }
-    ensures lost { (m : TheMeta) (b : List ℕ) (height : ℕ) → IsFile S.X.block32 p.now m b entry.now.cid height
-        → Agrees (S.seen store.old).told (root_over S.X.block32 p.now.chunk p.now.width m height b ∷ [])
-        → Stood (S.seen store.old).faults (S.seen store.new).faults → IfErr result (IsLossOf (S.seen store.old).told
-        (root_over S.X.block32 p.now.chunk p.now.width m height b ∷ [])) }
-    ensures cause { Answers S.X.block32 (IsBadEdited S.X.block32 p.now (S.seen store.new).told entry.now.cid) result
-        (S.seen store.old) (S.seen store.new) }
+    ensures gives { FindsRoot S.X.block32 p.now entry.now (S.seen store.old) (S.seen store.new) result }
     ensures stand { IfOk result (StandUnderRoot S.X.block32 p.now (S.seen store.old).told entry.now.cid) }
-    ensures told { (S.seen store.new).told ≡ (S.seen store.old).told }
+    ensures reads { ReadsInFile S.X.block32 p.now entry.now.cid (S.seen store.old) (S.seen store.new) result }
     ensures touches { touches.new ≡ touches.old + 1 }
 {
     let cid = entry.cid;
@@ -147,15 +131,7 @@ pub fn load_root<S: Store, L: Ledger>(
     touches: &mut Steps<L>,
 ) -> Result<NodeParts, StoreFault>
     ensures base { IfOk result IsBase }
-    ensures gives { (p : TheProfile) (m : TheMeta) (b : List ℕ) (height : ℕ)
-        → IsFile S.X.block32 p m b entry.now.cid height
-        → Agrees (S.seen store.old).told (root_over S.X.block32 p.chunk p.width m height b ∷ [])
-        → IfOk result (IsRootOf S.X.block32 p m b) }
-    ensures lost { (p : TheProfile) (m : TheMeta) (b : List ℕ) (height : ℕ)
-        → IsFile S.X.block32 p m b entry.now.cid height
-        → Agrees (S.seen store.old).told (root_over S.X.block32 p.chunk p.width m height b ∷ [])
-        → Stood (S.seen store.old).faults (S.seen store.new).faults
-        → IfErr result (IsLossOf (S.seen store.old).told (root_over S.X.block32 p.chunk p.width m height b ∷ [])) }
+    ensures gives { FindsSomeRoot S.X.block32 entry.now (S.seen store.old) (S.seen store.new) result }
     ensures cause { Answers S.X.block32 IsBadRoot result (S.seen store.old) (S.seen store.new) }
     ensures told { (S.seen store.new).told ≡ (S.seen store.old).told }
     ensures touches { touches.new ≡ touches.old + 1 }
@@ -222,11 +198,8 @@ pub fn save_over<S: Store, L: Ledger>(
     requires good { IsTrue (is_meta meta.now) }
     ensures part { IfOk result (λ part. part ≡ top_part S.X.block32 meta.now parts.now) }
     ensures held { OnOk result (Holds (S.seen store.new).told (top_held S.X.block32 meta.now parts.now)) }
-    ensures cause { Answers S.X.block32 NoneIsBad result (S.seen store.old) (S.seen store.new) }
-    ensures fault { IfErr result IsSaving }
     ensures err { OnErr result ((S.seen store.new).told ≡ (S.seen store.old).told) }
-    ensures good { KeepsGood S.X.block32 (S.seen store.old).told (S.seen store.new).told }
-    ensures saves { SavesOnly S.X.block32 (S.seen store.old).told (S.seen store.new).told }
+    ensures saves { SavesBlocks S.X.block32 (S.seen store.old) (S.seen store.new) result }
     ensures touches { touches.new ≤ touches.old + 1 }
     ensures rises { touches.old ≤ touches.new }
 {

@@ -1,4 +1,4 @@
-use Rattle.std.proofs.Common.{ℕ, [], ◌+◌, length, min, arith, refl, subst, sym, Err, Option}
+use Rattle.std.proofs.Common.{ℕ, [], ◌+◌, length, min, arith, refl, subst, sym, Err, Option, rules}
 use Rattle.std.proofs.lemmas.Result.{err_from_is_err_and}
 use Rattle.uf_edge.specs.Counts.{Stood}
 use Rattle.uf_store.specs.Writing.{IsSave}
@@ -14,22 +14,37 @@ use Rattle.uf_fileedit.proofs.creating.new_parts.Goals as goal
 -- ---- a file of no bytes
 
 pub returns-then-target-eq0-clause-gives : goal.returns-then-target-eq0-clause-gives
-returns-then-target-eq0-clause-gives g c = λ agrees agrees_now.
-    empty-gives g.S.X.BlockHash.block32 c.args.layer.p ((g.S.Store.seen c.change_leaf.new.store).told) [] c.args.layer.height c.args.target.size c.args.target.offset [] c.args.piece.now c.in_ok-just.field-0 c.in_ok-leaf.leaf (c.requires.low c.if-target-eq0.true) c.if-target-eq0.true c.in_ok-just.ensures
-    (c.in_ok-leaf.ensures.gives c.args.layer.p [] refl agrees agrees_now)
+returns-then-target-eq0-clause-gives g c = (
+  (λ agrees agrees_now.
+      empty-gives g.S.X.BlockHash.block32 c.args.layer.p ((g.S.Store.seen c.change_leaf.new.store).told) [] c.args.layer.height c.args.target.size c.args.target.offset [] c.args.piece.now c.in_ok-just.field-0 c.in_ok-leaf.leaf (c.requires.low c.if-target-eq0.true) c.if-target-eq0.true c.in_ok-just.ensures
+      (c.in_ok-leaf.ensures.gives.0 c.args.layer.p [] refl agrees agrees_now)),
+  search rules,
+)
 
-pub returns-in_err-leaf-clause-lost : goal.returns-in_err-leaf-clause-lost
-returns-in_err-leaf-clause-lost g c = λ few agrees agrees_now stood clash.
-    let out = err_from_is_err_and c.from_residual.result c.from_residual.ensures.1 in rw (out.1, out.2) (c.in_err-leaf.ensures.lost c.args.layer.p [] refl agrees agrees_now stood clash)
+pub returns-in_err-leaf-clause-gives : goal.returns-in_err-leaf-clause-gives
+returns-in_err-leaf-clause-gives g c = (
+  search rules,
+  (λ few agrees agrees_now stood clash.
+      let out = err_from_is_err_and c.from_residual.result c.from_residual.ensures.1 in rw (out.1, out.2) (c.in_err-leaf.ensures.gives.1 c.args.layer.p [] refl agrees agrees_now stood clash)),
+)
 
-pub returns-in_err-leaf-clause-cause : goal.returns-in_err-leaf-clause-cause
-returns-in_err-leaf-clause-cause g c = let out = err_from_is_err_and c.from_residual.result c.from_residual.ensures.1 in rw (out.1, out.2) (none-answers {A = Part} g.S.X.BlockHash.block32 c.args.layer.p c.args.layer.rows (min c.args.layer.top c.args.layer.height) [] (Err c.in_err-leaf.field-0.0) (g.S.Store.seen c.args.store.now) (g.S.Store.seen c.change_leaf.new.store) (c.in_err-leaf.ensures.cause c.args.layer.p c.args.layer.rows))
+pub returns-in_err-leaf-clause-saves : goal.returns-in_err-leaf-clause-saves
+returns-in_err-leaf-clause-saves g c = (
+  (let out = err_from_is_err_and c.from_residual.result c.from_residual.ensures.1 in rw (out.1, out.2) (none-answers {A = Part} g.S.X.BlockHash.block32 c.args.layer.p c.args.layer.rows (min c.args.layer.top c.args.layer.height) [] (Err c.in_err-leaf.field-0.0) (g.S.Store.seen c.args.store.now) (g.S.Store.seen c.change_leaf.new.store) (c.in_err-leaf.ensures.saves.0 c.args.layer.p c.args.layer.rows))),
+  search rules,
+)
 
-pub returns-in_err-just-clause-cause : goal.returns-in_err-just-clause-cause
-returns-in_err-just-clause-cause g c = let out = err_from_is_err_and c.from_residual-in_err-just.result c.from_residual-in_err-just.ensures.1 in rw (out.1, out.2) (calm-memory (g.S.Store.seen c.args.store.now) (g.S.Store.seen c.change_leaf.new.store) (c.in_ok-leaf.ensures.cause c.args.layer.p c.args.layer.rows))
+pub returns-in_err-just-clause-saves : goal.returns-in_err-just-clause-saves
+returns-in_err-just-clause-saves g c = (
+  (let out = err_from_is_err_and c.from_residual-in_err-just.result c.from_residual-in_err-just.ensures.1 in rw (out.1, out.2) (calm-memory (g.S.Store.seen c.args.store.now) (g.S.Store.seen c.change_leaf.new.store) (c.in_ok-leaf.ensures.saves.0 c.args.layer.p c.args.layer.rows))),
+  search rules,
+)
 
-pub returns-then-target-eq0-clause-cause : goal.returns-then-target-eq0-clause-cause
-returns-then-target-eq0-clause-cause g c = c.in_ok-leaf.ensures.cause c.args.layer.p c.args.layer.rows
+pub returns-then-target-eq0-clause-saves : goal.returns-then-target-eq0-clause-saves
+returns-then-target-eq0-clause-saves g c = (
+  (c.in_ok-leaf.ensures.saves.0 c.args.layer.p c.args.layer.rows),
+  search rules,
+)
 
 -- ---- the others
 
@@ -40,20 +55,20 @@ pub returns-clause-few : goal.returns-clause-few
 returns-clause-few g c = remade-few g.S.X.BlockHash.block32 (record { size = g.met.S.X.BlockHash.size; are_bytes = g.met.S.X.BlockHash.are_bytes }) c.args.layer.p c.requires.profile c.args.layer.height c.args.target.size c.change_parts.result (record { fits = c.requires.fits; small = c.requires.small; some = λ k. (let n = c.if-target-eq0.false in omega arith) }) c.change_parts.ensures.room
 
 pub returns-clause-gives : goal.returns-clause-gives
-returns-clause-gives g c = λ agrees agrees_now.
-    c.change_parts.ensures.gives (c.in_ok-zeros.ensures.blank c.args.layer.p) []
-    (nothing-old g.S.X.BlockHash.block32 c.args.layer.p (span c.args.layer.p.chunk c.args.layer.p.width c.args.layer.height) (min c.args.layer.top c.args.layer.height) [] refl)
-    (agrees-between g.S.X.BlockHash.block32 IsSave ((g.S.Store.seen c.args.store.now).told) ((g.S.Store.seen c.save_zeros.new.store).told) ((g.S.Store.seen c.change_parts.new.store).told) [] c.in_ok-zeros.ensures.saves c.change_parts.ensures.saves (record { first = agrees; last = agrees_now }))
-    agrees_now
-
-pub returns-clause-lost : goal.returns-clause-lost
-returns-clause-lost g c = λ few agrees agrees_now stood clash.
-    c.change_parts.ensures.lost few []
-    (nothing-old g.S.X.BlockHash.block32 c.args.layer.p (span c.args.layer.p.chunk c.args.layer.p.width c.args.layer.height) (min c.args.layer.top c.args.layer.height) [] refl)
-    (agrees-between g.S.X.BlockHash.block32 IsSave ((g.S.Store.seen c.args.store.now).told) ((g.S.Store.seen c.save_zeros.new.store).told) ((g.S.Store.seen c.change_parts.new.store).told) [] c.in_ok-zeros.ensures.saves c.change_parts.ensures.saves (record { first = agrees; last = agrees_now }))
-    agrees_now
-    (subst (λ (n : ℕ). Stood n (g.S.Store.seen c.change_parts.new.store).faults) (sym c.in_ok-zeros.ensures.cause.faults) stood)
-    (subst (λ (n : ℕ). Stood n (g.S.Store.seen c.change_parts.new.store).clashes) (sym c.in_ok-zeros.ensures.cause.clashes) clash)
+returns-clause-gives g c = (
+  (λ agrees agrees_now.
+      c.change_parts.ensures.gives.0 (c.in_ok-zeros.ensures.blank c.args.layer.p) []
+      (nothing-old g.S.X.BlockHash.block32 c.args.layer.p (span c.args.layer.p.chunk c.args.layer.p.width c.args.layer.height) (min c.args.layer.top c.args.layer.height) [] refl)
+      (agrees-between g.S.X.BlockHash.block32 IsSave ((g.S.Store.seen c.args.store.now).told) ((g.S.Store.seen c.save_zeros.new.store).told) ((g.S.Store.seen c.change_parts.new.store).told) [] c.in_ok-zeros.ensures.saves.2 c.change_parts.ensures.saves.1 (record { first = agrees; last = agrees_now }))
+      agrees_now),
+  (λ few agrees agrees_now stood clash.
+      c.change_parts.ensures.gives.1 few []
+      (nothing-old g.S.X.BlockHash.block32 c.args.layer.p (span c.args.layer.p.chunk c.args.layer.p.width c.args.layer.height) (min c.args.layer.top c.args.layer.height) [] refl)
+      (agrees-between g.S.X.BlockHash.block32 IsSave ((g.S.Store.seen c.args.store.now).told) ((g.S.Store.seen c.save_zeros.new.store).told) ((g.S.Store.seen c.change_parts.new.store).told) [] c.in_ok-zeros.ensures.saves.2 c.change_parts.ensures.saves.1 (record { first = agrees; last = agrees_now }))
+      agrees_now
+      (subst (λ (n : ℕ). Stood n (g.S.Store.seen c.change_parts.new.store).faults) (sym c.in_ok-zeros.ensures.saves.0.faults) stood)
+      (subst (λ (n : ℕ). Stood n (g.S.Store.seen c.change_parts.new.store).clashes) (sym c.in_ok-zeros.ensures.saves.0.clashes) clash)),
+)
 
 pub returns-clause-touches : goal.returns-clause-touches
 returns-clause-touches g c = λ a z within.
@@ -62,4 +77,7 @@ returns-clause-touches g c = λ a z within.
     omega arith
 
 pub returns-clause-saves : goal.returns-clause-saves
-returns-clause-saves g c = SavesOnly-trans g.S.X.BlockHash.block32 ((g.S.Store.seen c.args.store.now).told) ((g.S.Store.seen c.save_zeros.new.store).told) ((g.S.Store.seen c.change_parts.new.store).told) c.in_ok-zeros.ensures.saves c.change_parts.ensures.saves
+returns-clause-saves g c = (
+  search rules,
+  (SavesOnly-trans g.S.X.BlockHash.block32 ((g.S.Store.seen c.args.store.now).told) ((g.S.Store.seen c.save_zeros.new.store).told) ((g.S.Store.seen c.change_parts.new.store).told) c.in_ok-zeros.ensures.saves.2 c.change_parts.ensures.saves.1),
+)

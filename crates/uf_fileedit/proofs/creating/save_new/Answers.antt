@@ -1,7 +1,7 @@
-use Rattle.std.proofs.Common.{◌-◌, [], length, arith, Err}
+use Rattle.std.proofs.Common.{◌-◌, [], length, arith, Err, rules}
 use Rattle.std.proofs.lemmas.Result.{err_from_is_err_and}
 use Rattle.uf_store.specs.Writing.{IsSave}
-use Rattle.uf_store.proofs.Writing.{SavesOnly-trans, agrees-between}
+use Rattle.uf_store.proofs.Writing.{SavesOnly-trans, Wrote-good, agrees-between}
 use Rattle.uf_tree.specs.declared.nodes.Part.{Part}
 use Rattle.uf_fileedit.specs.Bad.{IsBadEdited}
 use Rattle.uf_fileedit.proofs.Made.{few-rows, new-costs, new-gives, none-bad}
@@ -16,15 +16,21 @@ pub new_parts-requires-clause-low : goal.new_parts-requires-clause-low
 new_parts-requires-clause-low g c = no-bytes c.args.p.now c.requires.profile 0 c.args.target.size c.args.target.offset (length c.args.piece.now) c.heights_of-at.result c.heights_of-at.ensures
 
 pub returns-clause-gives : goal.returns-clause-gives
-returns-clause-gives g c = λ agrees agrees_now.
-    new-gives c.args.p.now c.requires.profile c.args.target.size c.heights_of-at.result c.heights_of-at.ensures
-    g.S.X.BlockHash.block32 (record { size = g.met.S.X.BlockHash.size; are_bytes = g.met.S.X.BlockHash.are_bytes }) c.args.meta.now c.args.target.offset c.args.piece.now ((g.S.Store.seen c.new_parts.new.store).told) ((g.S.Store.seen c.save_over.new.store).told)
-    c.in_ok-parts.parts c.as_slice.result.now c.in_ok-part.part c.in_ok-part.ensures.good
-    (c.in_ok-parts.ensures.gives agrees (agrees-between g.S.X.BlockHash.block32 IsSave ((g.S.Store.seen c.args.store.now).told) ((g.S.Store.seen c.new_parts.new.store).told) ((g.S.Store.seen c.save_over.new.store).told) [] c.in_ok-parts.ensures.saves c.in_ok-part.ensures.saves (record { first = agrees; last = agrees_now })))
-    c.as_slice.ensures c.in_ok-part.ensures.part c.in_ok-part.ensures.held
+returns-clause-gives g c = (
+  (λ agrees agrees_now.
+      new-gives c.args.p.now c.requires.profile c.args.target.size c.heights_of-at.result c.heights_of-at.ensures
+      g.S.X.BlockHash.block32 (record { size = g.met.S.X.BlockHash.size; are_bytes = g.met.S.X.BlockHash.are_bytes }) c.args.meta.now c.args.target.offset c.args.piece.now ((g.S.Store.seen c.new_parts.new.store).told) ((g.S.Store.seen c.save_over.new.store).told)
+      c.in_ok-parts.parts c.as_slice.result.now c.in_ok-part.part (Wrote-good g.S.X.BlockHash.block32 IsSave ((g.S.Store.seen c.new_parts.new.store).told) ((g.S.Store.seen c.save_over.new.store).told) c.in_ok-part.ensures.saves.2)
+      (c.in_ok-parts.ensures.gives.0 agrees (agrees-between g.S.X.BlockHash.block32 IsSave ((g.S.Store.seen c.args.store.now).told) ((g.S.Store.seen c.new_parts.new.store).told) ((g.S.Store.seen c.save_over.new.store).told) [] c.in_ok-parts.ensures.saves.1 c.in_ok-part.ensures.saves.2 (record { first = agrees; last = agrees_now })))
+      c.as_slice.ensures c.in_ok-part.ensures.part c.in_ok-part.ensures.held),
+  search rules,
+)
 
 pub returns-clause-saves : goal.returns-clause-saves
-returns-clause-saves g c = SavesOnly-trans g.S.X.BlockHash.block32 ((g.S.Store.seen c.args.store.now).told) ((g.S.Store.seen c.new_parts.new.store).told) ((g.S.Store.seen c.save_over.new.store).told) c.in_ok-parts.ensures.saves c.in_ok-part.ensures.saves
+returns-clause-saves g c = (
+  search rules,
+  (SavesOnly-trans g.S.X.BlockHash.block32 ((g.S.Store.seen c.args.store.now).told) ((g.S.Store.seen c.new_parts.new.store).told) ((g.S.Store.seen c.save_over.new.store).told) c.in_ok-parts.ensures.saves.1 c.in_ok-part.ensures.saves.2),
+)
 
 pub returns-clause-touches : goal.returns-clause-touches
 returns-clause-touches g c = λ after a z high within.
@@ -33,15 +39,21 @@ returns-clause-touches g c = λ after a z high within.
 
 -- ---- the parts aren't made
 
-pub returns-in_err-parts-clause-lost : goal.returns-in_err-parts-clause-lost
-returns-in_err-parts-clause-lost g c = λ agrees agrees_now stood clash.
-    let out = err_from_is_err_and c.from_residual.result c.from_residual.ensures.1 in
-    rw (out.1, out.2) (c.in_err-parts.ensures.lost (few-rows c.args.p.now c.requires.profile c.args.target.size c.heights_of-at.result c.heights_of-at.ensures) agrees agrees_now stood clash)
+pub returns-in_err-parts-clause-gives : goal.returns-in_err-parts-clause-gives
+returns-in_err-parts-clause-gives g c = (
+  search rules,
+  (λ agrees agrees_now stood clash.
+      let out = err_from_is_err_and c.from_residual.result c.from_residual.ensures.1 in
+      rw (out.1, out.2) (c.in_err-parts.ensures.gives.1 (few-rows c.args.p.now c.requires.profile c.args.target.size c.heights_of-at.result c.heights_of-at.ensures) agrees agrees_now stood clash)),
+)
 
-pub returns-in_err-parts-clause-cause : goal.returns-in_err-parts-clause-cause
-returns-in_err-parts-clause-cause g c = λ root.
-    let out = err_from_is_err_and c.from_residual.result c.from_residual.ensures.1 in
-    rw (out.1, out.2) (none-bad g.S.X.BlockHash.block32 c.args.p.now _ _ root c.in_err-parts.field-0.0 (g.S.Store.seen c.args.store.now) (g.S.Store.seen c.new_parts.new.store) c.in_err-parts.ensures.cause)
+pub returns-in_err-parts-clause-saves : goal.returns-in_err-parts-clause-saves
+returns-in_err-parts-clause-saves g c = (
+  (λ root.
+      let out = err_from_is_err_and c.from_residual.result c.from_residual.ensures.1 in
+      rw (out.1, out.2) (none-bad g.S.X.BlockHash.block32 c.args.p.now _ _ root c.in_err-parts.field-0.0 (g.S.Store.seen c.args.store.now) (g.S.Store.seen c.new_parts.new.store) c.in_err-parts.ensures.saves.0)),
+  search rules,
+)
 
 pub returns-in_err-parts-clause-touches : goal.returns-in_err-parts-clause-touches
 returns-in_err-parts-clause-touches g c = λ after a z high within.
@@ -50,18 +62,21 @@ returns-in_err-parts-clause-touches g c = λ after a z high within.
 
 -- ---- the root isn't saved
 
-pub returns-in_err-part-clause-lost : goal.returns-in_err-part-clause-lost
-returns-in_err-part-clause-lost g c = λ agrees agrees_now stood clash.
-    let out = err_from_is_err_and c.from_residual-in_err-part.result c.from_residual-in_err-part.ensures.1 in
-    rw (out.1, out.2) (saved-lost g.S.X.BlockHash.block32 (g.S.Store.seen c.args.store.now) (g.S.Store.seen c.new_parts.new.store) (g.S.Store.seen c.save_over.new.store) c.in_ok-parts.ensures.cause {A = Part} [] (Err c.in_err-part.field-0.0) c.in_err-part.ensures.cause c.in_err-part.ensures.fault stood clash)
-
-pub returns-in_err-part-clause-cause : goal.returns-in_err-part-clause-cause
-returns-in_err-part-clause-cause g c = λ root.
-    let out = err_from_is_err_and c.from_residual-in_err-part.result c.from_residual-in_err-part.ensures.1 in
-    rw (out.1, out.2) (saved-shows g.S.X.BlockHash.block32 (g.S.Store.seen c.args.store.now) (g.S.Store.seen c.new_parts.new.store) (g.S.Store.seen c.save_over.new.store) c.in_ok-parts.ensures.cause {A = Part} (IsBadEdited g.S.X.BlockHash.block32 c.args.p.now ((g.S.Store.seen c.save_over.new.store).told) root) (Err c.in_err-part.field-0.0) c.in_err-part.ensures.cause)
+pub returns-in_err-part-clause-gives : goal.returns-in_err-part-clause-gives
+returns-in_err-part-clause-gives g c = (
+  search rules,
+  (λ agrees agrees_now stood clash.
+      let out = err_from_is_err_and c.from_residual-in_err-part.result c.from_residual-in_err-part.ensures.1 in
+      rw (out.1, out.2) (saved-lost g.S.X.BlockHash.block32 (g.S.Store.seen c.args.store.now) (g.S.Store.seen c.new_parts.new.store) (g.S.Store.seen c.save_over.new.store) c.in_ok-parts.ensures.saves.0 {A = Part} [] (Err c.in_err-part.field-0.0) c.in_err-part.ensures.saves.0 c.in_err-part.ensures.saves.1 stood clash)),
+)
 
 pub returns-in_err-part-clause-saves : goal.returns-in_err-part-clause-saves
-returns-in_err-part-clause-saves g c = SavesOnly-trans g.S.X.BlockHash.block32 ((g.S.Store.seen c.args.store.now).told) ((g.S.Store.seen c.new_parts.new.store).told) ((g.S.Store.seen c.save_over.new.store).told) c.in_ok-parts.ensures.saves c.in_err-part.ensures.saves
+returns-in_err-part-clause-saves g c = (
+  (λ root.
+      let out = err_from_is_err_and c.from_residual-in_err-part.result c.from_residual-in_err-part.ensures.1 in
+      rw (out.1, out.2) (saved-shows g.S.X.BlockHash.block32 (g.S.Store.seen c.args.store.now) (g.S.Store.seen c.new_parts.new.store) (g.S.Store.seen c.save_over.new.store) c.in_ok-parts.ensures.saves.0 {A = Part} (IsBadEdited g.S.X.BlockHash.block32 c.args.p.now ((g.S.Store.seen c.save_over.new.store).told) root) (Err c.in_err-part.field-0.0) c.in_err-part.ensures.saves.0)),
+  (SavesOnly-trans g.S.X.BlockHash.block32 ((g.S.Store.seen c.args.store.now).told) ((g.S.Store.seen c.new_parts.new.store).told) ((g.S.Store.seen c.save_over.new.store).told) c.in_ok-parts.ensures.saves.1 c.in_err-part.ensures.saves.2),
+)
 
 pub returns-in_err-part-clause-touches : goal.returns-in_err-part-clause-touches
 returns-in_err-part-clause-touches g c = λ after a z high within.

@@ -7,7 +7,7 @@ use Rattle.uf_store.specs.Faults.{Shows}
 use Rattle.uf_store.specs.Writing.{IsSave}
 use Rattle.uf_store.proofs.Causes.{StaysCalm-trans}
 use Rattle.uf_store.proofs.Keeping.{KeepsGood-trans}
-use Rattle.uf_store.proofs.Writing.{SavesOnly-trans, agrees-between}
+use Rattle.uf_store.proofs.Writing.{SavesOnly-trans, Wrote-good, agrees-between}
 use Rattle.uf_tree.specs.FileSub.{span}
 use Rattle.uf_tree.specs.declared.nodes.Part.{Part}
 use Rattle.uf_tree.proofs.Told.{kept}
@@ -23,13 +23,16 @@ use Rattle.uf_fileedit.proofs.growing.+grown.Goals as goal
 -- ---- a row of the old file
 
 pub returns-then-layer-clause-gives : goal.returns-then-layer-clause-gives
-returns-then-layer-clause-gives g t c = λ zeros. base-gives g.S.X.BlockHash.block32 c.args.layer.p c.args.layer.top c.args.layer.height c.if-layer.true c.args.olds.now c.args.target c.args.piece.now ((g.S.Store.seen c.args.store.now).told) ((g.S.Store.seen c.change_parts.new.store).told) c.change_parts.result (c.change_parts.ensures.gives zeros)
+returns-then-layer-clause-gives g t c = (
+  (λ zeros. base-gives g.S.X.BlockHash.block32 c.args.layer.p c.args.layer.top c.args.layer.height c.if-layer.true c.args.olds.now c.args.target c.args.piece.now ((g.S.Store.seen c.args.store.now).told) ((g.S.Store.seen c.change_parts.new.store).told) c.change_parts.result (c.change_parts.ensures.gives.0 zeros)),
+  (λ few. base-lost g.S.X.BlockHash.block32 c.args.layer.p c.args.layer.top c.args.layer.height c.if-layer.true c.args.olds.now (g.S.Store.seen c.args.store.now) (g.S.Store.seen c.change_parts.new.store) c.change_parts.result (c.change_parts.ensures.gives.1 few)),
+)
 
-pub returns-then-layer-clause-lost : goal.returns-then-layer-clause-lost
-returns-then-layer-clause-lost g t c = λ few. base-lost g.S.X.BlockHash.block32 c.args.layer.p c.args.layer.top c.args.layer.height c.if-layer.true c.args.olds.now (g.S.Store.seen c.args.store.now) (g.S.Store.seen c.change_parts.new.store) c.change_parts.result (c.change_parts.ensures.lost few)
-
-pub returns-then-layer-clause-cause : goal.returns-then-layer-clause-cause
-returns-then-layer-clause-cause g t c = base-shows g.S.X.BlockHash.block32 c.args.layer.p c.args.layer.top c.args.layer.height c.if-layer.true c.args.layer.rows c.args.olds.now ((g.S.Store.seen c.change_parts.new.store).told) c.change_parts.result (g.S.Store.seen c.args.store.now) (g.S.Store.seen c.change_parts.new.store) c.change_parts.ensures.cause
+pub returns-then-layer-clause-saves : goal.returns-then-layer-clause-saves
+returns-then-layer-clause-saves g t c = (
+  (base-shows g.S.X.BlockHash.block32 c.args.layer.p c.args.layer.top c.args.layer.height c.if-layer.true c.args.layer.rows c.args.olds.now ((g.S.Store.seen c.change_parts.new.store).told) c.change_parts.result (g.S.Store.seen c.args.store.now) (g.S.Store.seen c.change_parts.new.store) c.change_parts.ensures.saves.0),
+  search rules,
+)
 
 pub returns-then-layer-clause-touches : goal.returns-then-layer-clause-touches
 returns-then-layer-clause-touches g t c = λ first a z some is below. c.change_parts.ensures.touches a z is (subst (λ n. AreBelow (span c.args.layer.p.chunk c.args.layer.p.width n) c.args.target.old c.args.olds.now) (let low = c.if-layer.true in let e : min (c.args.layer.top - 1) c.args.layer.height ≡ c.args.layer.height = omega arith in e) below)
@@ -90,10 +93,13 @@ change_parts-requires-2-clause-within g t c = subst (λ n. LiesWithin (c.args.ta
 -- ---- a row more
 
 pub returns-clause-gives : goal.returns-clause-gives
-returns-clause-gives g t c = λ zeros.
-    grown-makes g.S.X.BlockHash.block32 (record { size = g.met.S.X.BlockHash.size; are_bytes = g.met.S.X.BlockHash.are_bytes }) c.args.layer.p c.requires.profile c.args.layer.top c.args.layer.height (c.args.layer.height - 1) c.args.target.size c.args.target.offset c.span_of-count.result c.min-cut.result c.args.piece.now (let low = c.if-layer.false in let s = c.requires.rows in let e : c.args.layer.height ≡ (c.args.layer.height - 1) + 1 = omega arith in e) (let low = c.if-layer.false in let e : c.args.layer.top ≤ c.args.layer.height = omega arith in e) c.requires.rows c.span_of-count.ensures (c.requires.more (let low = c.if-layer.false in let e : c.args.layer.top ≤ c.args.layer.height = omega arith in e)) c.requires.size.small (c.min-cut.ensures ∙ ap (min (length c.args.piece.now)) c.saturating_sub.ensures) ((g.S.Store.seen c.args.store.now).told) ((g.S.Store.seen c.grown.new.store).told) ((g.S.Store.seen c.save_node.new.store).told) ((g.S.Store.seen c.change_parts-2.new.store).told) c.in_ok-firsts.ensures.saves c.in_ok-first.ensures.saves c.in_ok-news.ensures.saves
-    c.args.olds.now c.in_ok-firsts.firsts c.as_slice.result.now [] c.in_ok-news.news c.as_slice-2.result.now c.in_ok-behind.field-0 c.in_ok-first.first c.saturating_sub-2.result c.saturating_sub-2.ensures (c.in_ok-firsts.ensures.gives zeros) c.as_slice.ensures c.in_ok-first.ensures.part c.in_ok-first.ensures.held refl
-    (c.in_ok-news.ensures.gives (blank-later g.S.X.BlockHash.block32 c.args.layer.p ((g.S.Store.seen c.args.store.now).told) ((g.S.Store.seen c.save_node.new.store).told) 0 c.args.layer.zeros (KeepsGood-trans g.S.X.BlockHash.block32 ((g.S.Store.seen c.args.store.now).told) ((g.S.Store.seen c.grown.new.store).told) ((g.S.Store.seen c.save_node.new.store).told) c.in_ok-firsts.ensures.good c.in_ok-first.ensures.good) zeros)) c.as_slice-2.ensures c.in_ok-behind.ensures
+returns-clause-gives g t c = (
+  (λ zeros.
+      grown-makes g.S.X.BlockHash.block32 (record { size = g.met.S.X.BlockHash.size; are_bytes = g.met.S.X.BlockHash.are_bytes }) c.args.layer.p c.requires.profile c.args.layer.top c.args.layer.height (c.args.layer.height - 1) c.args.target.size c.args.target.offset c.span_of-count.result c.min-cut.result c.args.piece.now (let low = c.if-layer.false in let s = c.requires.rows in let e : c.args.layer.height ≡ (c.args.layer.height - 1) + 1 = omega arith in e) (let low = c.if-layer.false in let e : c.args.layer.top ≤ c.args.layer.height = omega arith in e) c.requires.rows c.span_of-count.ensures (c.requires.more (let low = c.if-layer.false in let e : c.args.layer.top ≤ c.args.layer.height = omega arith in e)) c.requires.size.small (c.min-cut.ensures ∙ ap (min (length c.args.piece.now)) c.saturating_sub.ensures) ((g.S.Store.seen c.args.store.now).told) ((g.S.Store.seen c.grown.new.store).told) ((g.S.Store.seen c.save_node.new.store).told) ((g.S.Store.seen c.change_parts-2.new.store).told) c.in_ok-firsts.ensures.saves.1 c.in_ok-first.ensures.saves c.in_ok-news.ensures.saves.1
+      c.args.olds.now c.in_ok-firsts.firsts c.as_slice.result.now [] c.in_ok-news.news c.as_slice-2.result.now c.in_ok-behind.field-0 c.in_ok-first.first c.saturating_sub-2.result c.saturating_sub-2.ensures (c.in_ok-firsts.ensures.gives.0 zeros) c.as_slice.ensures c.in_ok-first.ensures.part c.in_ok-first.ensures.held refl
+      (c.in_ok-news.ensures.gives.0 (blank-later g.S.X.BlockHash.block32 c.args.layer.p ((g.S.Store.seen c.args.store.now).told) ((g.S.Store.seen c.save_node.new.store).told) 0 c.args.layer.zeros (KeepsGood-trans g.S.X.BlockHash.block32 ((g.S.Store.seen c.args.store.now).told) ((g.S.Store.seen c.grown.new.store).told) ((g.S.Store.seen c.save_node.new.store).told) (Wrote-good g.S.X.BlockHash.block32 IsSave ((g.S.Store.seen c.args.store.now).told) ((g.S.Store.seen c.grown.new.store).told) c.in_ok-firsts.ensures.saves.1) c.in_ok-first.ensures.good) zeros)) c.as_slice-2.ensures c.in_ok-behind.ensures),
+  search rules,
+)
 
 pub returns-clause-some : goal.returns-clause-some
 returns-clause-some g t c = let same : length c.in_ok-behind.field-0 ≡ suc (length c.as_slice-2.result.now) = ap (λ (l : List Part). length l) c.in_ok-behind.ensures in omega arith
@@ -110,27 +116,45 @@ returns-clause-size g t c =
     let first : c.in_ok-first.first.size ≡ c.span_of-count.result = ap (λ (m : Part). m.size) c.in_ok-first.ensures.part ∙ ap (sum_by (λ (m : Part). m.size)) c.as_slice.ensures ∙ c.in_ok-firsts.ensures.size in
     total-grown c.in_ok-first.first c.in_ok-news.news c.as_slice-2.result.now c.in_ok-behind.field-0 c.args.target.size c.span_of-count.result c.in_ok-behind.ensures c.as_slice-2.ensures first (let e = counted g.S.X.BlockHash.block32 (record { size = g.met.S.X.BlockHash.size; are_bytes = g.met.S.X.BlockHash.are_bytes }) c.args.layer.p c.requires.profile c.args.layer.height c.args.target.size c.args.target.offset c.span_of-count.result c.span_of-count.result c.min-cut.result c.args.piece.now c.span_of-count.ensures refl (c.requires.more (let low = c.if-layer.false in let e : c.args.layer.top ≤ c.args.layer.height = omega arith in e)) c.requires.size.small (c.min-cut.ensures ∙ ap (min (length c.args.piece.now)) c.saturating_sub.ensures) in let i = (c.requires.more (let low = c.if-layer.false in let e : c.args.layer.top ≤ c.args.layer.height = omega arith in e)) in omega arith) c.in_ok-news.ensures.size
 
-pub returns-in_err-firsts-clause-lost : goal.returns-in_err-firsts-clause-lost
-returns-in_err-firsts-clause-lost g t c = λ few. let out = err_from_is_err_and c.from_residual.result c.from_residual.ensures.1 in rw (out.1, out.2) (subst (λ n. LosesOfRoot g.S.X.BlockHash.block32 c.args.layer.p c.args.layer.top n c.args.olds.now (g.S.Store.seen c.args.store.now) (g.S.Store.seen c.grown.new.store) (Err c.in_err-firsts.field-0.0)) (let low = c.if-layer.false in let s = c.requires.rows in let e : min (c.args.layer.top - 1) (c.args.layer.height - 1) ≡ min (c.args.layer.top - 1) c.args.layer.height = omega arith in e) (c.in_err-firsts.ensures.lost few))
+pub returns-in_err-firsts-clause-gives : goal.returns-in_err-firsts-clause-gives
+returns-in_err-firsts-clause-gives g t c = (
+  search rules,
+  (λ few. let out = err_from_is_err_and c.from_residual.result c.from_residual.ensures.1 in rw (out.1, out.2) (subst (λ n. LosesOfRoot g.S.X.BlockHash.block32 c.args.layer.p c.args.layer.top n c.args.olds.now (g.S.Store.seen c.args.store.now) (g.S.Store.seen c.grown.new.store) (Err c.in_err-firsts.field-0.0)) (let low = c.if-layer.false in let s = c.requires.rows in let e : min (c.args.layer.top - 1) (c.args.layer.height - 1) ≡ min (c.args.layer.top - 1) c.args.layer.height = omega arith in e) (c.in_err-firsts.ensures.gives.1 few))),
+)
 
-pub returns-in_err-first-clause-lost : goal.returns-in_err-first-clause-lost
-returns-in_err-first-clause-lost g t c = λ few gs are fits agrees agrees_now stood clash. let out = err_from_is_err_and c.from_residual-in_err-first.result c.from_residual-in_err-first.ensures.1 in rw (out.1, out.2) (saved-lost g.S.X.BlockHash.block32 (g.S.Store.seen c.args.store.now) (g.S.Store.seen c.grown.new.store) (g.S.Store.seen c.save_node.new.store) c.in_ok-firsts.ensures.cause {A = Part} (blocks_of_all g.S.X.BlockHash.block32 c.args.layer.p (min (c.args.layer.top - 1) c.args.layer.height) gs) (Err c.in_err-first.field-0.0) c.in_err-first.ensures.cause c.in_err-first.ensures.fault stood clash)
+pub returns-in_err-first-clause-gives : goal.returns-in_err-first-clause-gives
+returns-in_err-first-clause-gives g t c = (
+  search rules,
+  (λ few gs are fits agrees agrees_now stood clash. let out = err_from_is_err_and c.from_residual-in_err-first.result c.from_residual-in_err-first.ensures.1 in rw (out.1, out.2) (saved-lost g.S.X.BlockHash.block32 (g.S.Store.seen c.args.store.now) (g.S.Store.seen c.grown.new.store) (g.S.Store.seen c.save_node.new.store) c.in_ok-firsts.ensures.saves.0 {A = Part} (blocks_of_all g.S.X.BlockHash.block32 c.args.layer.p (min (c.args.layer.top - 1) c.args.layer.height) gs) (Err c.in_err-first.field-0.0) c.in_err-first.ensures.cause c.in_err-first.ensures.fault stood clash)),
+)
 
-pub returns-in_err-news-clause-lost : goal.returns-in_err-news-clause-lost
-returns-in_err-news-clause-lost g t c = λ few gs are fits agrees agrees_now stood clash. let out = err_from_is_err_and c.from_residual-in_err-news.result c.from_residual-in_err-news.ensures.1 in rw (out.1, out.2) (lost-none ((g.S.Store.seen c.change_parts-2.new.store).told) (blocks_of_all g.S.X.BlockHash.block32 c.args.layer.p (min (c.args.layer.top - 1) c.args.layer.height) gs) c.in_err-news.field-0.0
-    (c.in_err-news.ensures.lost few [] (nothing-old g.S.X.BlockHash.block32 c.args.layer.p (span c.args.layer.p.chunk c.args.layer.p.width c.args.layer.height) (min c.args.layer.top c.args.layer.height) [] refl)
-    (agrees-none ((g.S.Store.seen c.save_node.new.store).told) (blocks_of_all g.S.X.BlockHash.block32 c.args.layer.p (min (c.args.layer.top - 1) c.args.layer.height) gs) (agrees-between g.S.X.BlockHash.block32 IsSave ((g.S.Store.seen c.args.store.now).told) ((g.S.Store.seen c.save_node.new.store).told) ((g.S.Store.seen c.change_parts-2.new.store).told) (blocks_of_all g.S.X.BlockHash.block32 c.args.layer.p (min (c.args.layer.top - 1) c.args.layer.height) gs) (SavesOnly-trans g.S.X.BlockHash.block32 ((g.S.Store.seen c.args.store.now).told) ((g.S.Store.seen c.grown.new.store).told) ((g.S.Store.seen c.save_node.new.store).told) c.in_ok-firsts.ensures.saves c.in_ok-first.ensures.saves) c.in_err-news.ensures.saves (record { first = agrees; last = agrees_now })))
-    (agrees-none ((g.S.Store.seen c.change_parts-2.new.store).told) (blocks_of_all g.S.X.BlockHash.block32 c.args.layer.p (min (c.args.layer.top - 1) c.args.layer.height) gs) agrees_now)
-    (subst (λ (n : ℕ). Stood n (g.S.Store.seen c.change_parts-2.new.store).faults) (sym (StaysCalm-trans (g.S.Store.seen c.args.store.now) (g.S.Store.seen c.grown.new.store) (g.S.Store.seen c.save_node.new.store) c.in_ok-firsts.ensures.cause c.in_ok-first.ensures.cause).faults) stood) (subst (λ (n : ℕ). Stood n (g.S.Store.seen c.change_parts-2.new.store).clashes) (sym (StaysCalm-trans (g.S.Store.seen c.args.store.now) (g.S.Store.seen c.grown.new.store) (g.S.Store.seen c.save_node.new.store) c.in_ok-firsts.ensures.cause c.in_ok-first.ensures.cause).clashes) clash)))
+pub returns-in_err-news-clause-gives : goal.returns-in_err-news-clause-gives
+returns-in_err-news-clause-gives g t c = (
+  search rules,
+  (λ few gs are fits agrees agrees_now stood clash. let out = err_from_is_err_and c.from_residual-in_err-news.result c.from_residual-in_err-news.ensures.1 in rw (out.1, out.2) (lost-none ((g.S.Store.seen c.change_parts-2.new.store).told) (blocks_of_all g.S.X.BlockHash.block32 c.args.layer.p (min (c.args.layer.top - 1) c.args.layer.height) gs) c.in_err-news.field-0.0
+      (c.in_err-news.ensures.gives.1 few [] (nothing-old g.S.X.BlockHash.block32 c.args.layer.p (span c.args.layer.p.chunk c.args.layer.p.width c.args.layer.height) (min c.args.layer.top c.args.layer.height) [] refl)
+      (agrees-none ((g.S.Store.seen c.save_node.new.store).told) (blocks_of_all g.S.X.BlockHash.block32 c.args.layer.p (min (c.args.layer.top - 1) c.args.layer.height) gs) (agrees-between g.S.X.BlockHash.block32 IsSave ((g.S.Store.seen c.args.store.now).told) ((g.S.Store.seen c.save_node.new.store).told) ((g.S.Store.seen c.change_parts-2.new.store).told) (blocks_of_all g.S.X.BlockHash.block32 c.args.layer.p (min (c.args.layer.top - 1) c.args.layer.height) gs) (SavesOnly-trans g.S.X.BlockHash.block32 ((g.S.Store.seen c.args.store.now).told) ((g.S.Store.seen c.grown.new.store).told) ((g.S.Store.seen c.save_node.new.store).told) c.in_ok-firsts.ensures.saves.1 c.in_ok-first.ensures.saves) c.in_err-news.ensures.saves.1 (record { first = agrees; last = agrees_now })))
+      (agrees-none ((g.S.Store.seen c.change_parts-2.new.store).told) (blocks_of_all g.S.X.BlockHash.block32 c.args.layer.p (min (c.args.layer.top - 1) c.args.layer.height) gs) agrees_now)
+      (subst (λ (n : ℕ). Stood n (g.S.Store.seen c.change_parts-2.new.store).faults) (sym (StaysCalm-trans (g.S.Store.seen c.args.store.now) (g.S.Store.seen c.grown.new.store) (g.S.Store.seen c.save_node.new.store) c.in_ok-firsts.ensures.saves.0 c.in_ok-first.ensures.cause).faults) stood) (subst (λ (n : ℕ). Stood n (g.S.Store.seen c.change_parts-2.new.store).clashes) (sym (StaysCalm-trans (g.S.Store.seen c.args.store.now) (g.S.Store.seen c.grown.new.store) (g.S.Store.seen c.save_node.new.store) c.in_ok-firsts.ensures.saves.0 c.in_ok-first.ensures.cause).clashes) clash)))),
+)
 
-pub returns-in_err-firsts-clause-cause : goal.returns-in_err-firsts-clause-cause
-returns-in_err-firsts-clause-cause g t c = let out = err_from_is_err_and c.from_residual.result c.from_residual.ensures.1 in rw (out.1, out.2) (subst (λ n. Shows g.S.X.BlockHash.block32 (IsBadAmongOld g.S.X.BlockHash.block32 c.args.layer.p ((g.S.Store.seen c.grown.new.store).told) c.args.layer.rows n c.args.olds.now) c.in_err-firsts.field-0.0 (g.S.Store.seen c.args.store.now) (g.S.Store.seen c.grown.new.store)) (let low = c.if-layer.false in let s = c.requires.rows in let e : min (c.args.layer.top - 1) (c.args.layer.height - 1) ≡ min (c.args.layer.top - 1) c.args.layer.height = omega arith in e) c.in_err-firsts.ensures.cause)
+pub returns-in_err-firsts-clause-saves : goal.returns-in_err-firsts-clause-saves
+returns-in_err-firsts-clause-saves g t c = (
+  (let out = err_from_is_err_and c.from_residual.result c.from_residual.ensures.1 in rw (out.1, out.2) (subst (λ n. Shows g.S.X.BlockHash.block32 (IsBadAmongOld g.S.X.BlockHash.block32 c.args.layer.p ((g.S.Store.seen c.grown.new.store).told) c.args.layer.rows n c.args.olds.now) c.in_err-firsts.field-0.0 (g.S.Store.seen c.args.store.now) (g.S.Store.seen c.grown.new.store)) (let low = c.if-layer.false in let s = c.requires.rows in let e : min (c.args.layer.top - 1) (c.args.layer.height - 1) ≡ min (c.args.layer.top - 1) c.args.layer.height = omega arith in e) c.in_err-firsts.ensures.saves.0)),
+  search rules,
+)
 
-pub returns-in_err-first-clause-cause : goal.returns-in_err-first-clause-cause
-returns-in_err-first-clause-cause g t c = let out = err_from_is_err_and c.from_residual-in_err-first.result c.from_residual-in_err-first.ensures.1 in rw (out.1, out.2) (saved-shows g.S.X.BlockHash.block32 (g.S.Store.seen c.args.store.now) (g.S.Store.seen c.grown.new.store) (g.S.Store.seen c.save_node.new.store) c.in_ok-firsts.ensures.cause {A = Part} (IsBadAmongOld g.S.X.BlockHash.block32 c.args.layer.p ((g.S.Store.seen c.save_node.new.store).told) c.args.layer.rows (min (c.args.layer.top - 1) c.args.layer.height) c.args.olds.now) (Err c.in_err-first.field-0.0) c.in_err-first.ensures.cause)
+pub returns-in_err-first-clause-saves : goal.returns-in_err-first-clause-saves
+returns-in_err-first-clause-saves g t c = (
+  (let out = err_from_is_err_and c.from_residual-in_err-first.result c.from_residual-in_err-first.ensures.1 in rw (out.1, out.2) (saved-shows g.S.X.BlockHash.block32 (g.S.Store.seen c.args.store.now) (g.S.Store.seen c.grown.new.store) (g.S.Store.seen c.save_node.new.store) c.in_ok-firsts.ensures.saves.0 {A = Part} (IsBadAmongOld g.S.X.BlockHash.block32 c.args.layer.p ((g.S.Store.seen c.save_node.new.store).told) c.args.layer.rows (min (c.args.layer.top - 1) c.args.layer.height) c.args.olds.now) (Err c.in_err-first.field-0.0) c.in_err-first.ensures.cause)),
+  search rules,
+)
 
-pub returns-in_err-news-clause-cause : goal.returns-in_err-news-clause-cause
-returns-in_err-news-clause-cause g t c = let out = err_from_is_err_and c.from_residual-in_err-news.result c.from_residual-in_err-news.ensures.1 in rw (out.1, out.2) (none-among g.S.X.BlockHash.block32 c.args.layer.p c.args.layer.rows (min c.args.layer.top c.args.layer.height) (min (c.args.layer.top - 1) c.args.layer.height) [] c.args.olds.now c.in_err-news.field-0.0 (g.S.Store.seen c.args.store.now) (g.S.Store.seen c.save_node.new.store) (g.S.Store.seen c.change_parts-2.new.store) refl (StaysCalm-trans (g.S.Store.seen c.args.store.now) (g.S.Store.seen c.grown.new.store) (g.S.Store.seen c.save_node.new.store) c.in_ok-firsts.ensures.cause c.in_ok-first.ensures.cause) c.in_err-news.ensures.cause)
+pub returns-in_err-news-clause-saves : goal.returns-in_err-news-clause-saves
+returns-in_err-news-clause-saves g t c = (
+  (let out = err_from_is_err_and c.from_residual-in_err-news.result c.from_residual-in_err-news.ensures.1 in rw (out.1, out.2) (none-among g.S.X.BlockHash.block32 c.args.layer.p c.args.layer.rows (min c.args.layer.top c.args.layer.height) (min (c.args.layer.top - 1) c.args.layer.height) [] c.args.olds.now c.in_err-news.field-0.0 (g.S.Store.seen c.args.store.now) (g.S.Store.seen c.save_node.new.store) (g.S.Store.seen c.change_parts-2.new.store) refl (StaysCalm-trans (g.S.Store.seen c.args.store.now) (g.S.Store.seen c.grown.new.store) (g.S.Store.seen c.save_node.new.store) c.in_ok-firsts.ensures.saves.0 c.in_ok-first.ensures.cause) c.in_err-news.ensures.saves.0)),
+  (SavesOnly-trans g.S.X.BlockHash.block32 ((g.S.Store.seen c.args.store.now).told) ((g.S.Store.seen c.save_node.new.store).told) ((g.S.Store.seen c.change_parts-2.new.store).told) (SavesOnly-trans g.S.X.BlockHash.block32 ((g.S.Store.seen c.args.store.now).told) ((g.S.Store.seen c.grown.new.store).told) ((g.S.Store.seen c.save_node.new.store).told) c.in_ok-firsts.ensures.saves.1 c.in_ok-first.ensures.saves) c.in_err-news.ensures.saves.1),
+)
 
 pub returns-then-layer-clause-rises : goal.returns-then-layer-clause-rises
 returns-then-layer-clause-rises g t c = climbs-low c.change_parts.result c.args.touches.now c.change_parts.new.touches c.change_parts.ensures.rises
@@ -164,20 +188,17 @@ returns-in_err-firsts-clause-touches g t c = λ first a z some is below.
 
 -- ---- what is kept
 
-pub returns-clause-good : goal.returns-clause-good
-returns-clause-good g t c = KeepsGood-trans g.S.X.BlockHash.block32 ((g.S.Store.seen c.args.store.now).told) ((g.S.Store.seen c.save_node.new.store).told) ((g.S.Store.seen c.change_parts-2.new.store).told) (KeepsGood-trans g.S.X.BlockHash.block32 ((g.S.Store.seen c.args.store.now).told) ((g.S.Store.seen c.grown.new.store).told) ((g.S.Store.seen c.save_node.new.store).told) c.in_ok-firsts.ensures.good c.in_ok-first.ensures.good) c.in_ok-news.ensures.good
-
 pub returns-clause-saves : goal.returns-clause-saves
-returns-clause-saves g t c = SavesOnly-trans g.S.X.BlockHash.block32 ((g.S.Store.seen c.args.store.now).told) ((g.S.Store.seen c.save_node.new.store).told) ((g.S.Store.seen c.change_parts-2.new.store).told) (SavesOnly-trans g.S.X.BlockHash.block32 ((g.S.Store.seen c.args.store.now).told) ((g.S.Store.seen c.grown.new.store).told) ((g.S.Store.seen c.save_node.new.store).told) c.in_ok-firsts.ensures.saves c.in_ok-first.ensures.saves) c.in_ok-news.ensures.saves
-
-pub returns-in_err-behind-clause-good : goal.returns-in_err-behind-clause-good
-returns-in_err-behind-clause-good g t c = KeepsGood-trans g.S.X.BlockHash.block32 ((g.S.Store.seen c.args.store.now).told) ((g.S.Store.seen c.save_node.new.store).told) ((g.S.Store.seen c.change_parts-2.new.store).told) (KeepsGood-trans g.S.X.BlockHash.block32 ((g.S.Store.seen c.args.store.now).told) ((g.S.Store.seen c.grown.new.store).told) ((g.S.Store.seen c.save_node.new.store).told) c.in_ok-firsts.ensures.good c.in_ok-first.ensures.good) c.in_ok-news.ensures.good
+returns-clause-saves g t c = (
+  search rules,
+  (SavesOnly-trans g.S.X.BlockHash.block32 ((g.S.Store.seen c.args.store.now).told) ((g.S.Store.seen c.save_node.new.store).told) ((g.S.Store.seen c.change_parts-2.new.store).told) (SavesOnly-trans g.S.X.BlockHash.block32 ((g.S.Store.seen c.args.store.now).told) ((g.S.Store.seen c.grown.new.store).told) ((g.S.Store.seen c.save_node.new.store).told) c.in_ok-firsts.ensures.saves.1 c.in_ok-first.ensures.saves) c.in_ok-news.ensures.saves.1),
+)
 
 pub returns-in_err-behind-clause-saves : goal.returns-in_err-behind-clause-saves
-returns-in_err-behind-clause-saves g t c = SavesOnly-trans g.S.X.BlockHash.block32 ((g.S.Store.seen c.args.store.now).told) ((g.S.Store.seen c.save_node.new.store).told) ((g.S.Store.seen c.change_parts-2.new.store).told) (SavesOnly-trans g.S.X.BlockHash.block32 ((g.S.Store.seen c.args.store.now).told) ((g.S.Store.seen c.grown.new.store).told) ((g.S.Store.seen c.save_node.new.store).told) c.in_ok-firsts.ensures.saves c.in_ok-first.ensures.saves) c.in_ok-news.ensures.saves
-
-pub returns-in_err-news-clause-saves : goal.returns-in_err-news-clause-saves
-returns-in_err-news-clause-saves g t c = SavesOnly-trans g.S.X.BlockHash.block32 ((g.S.Store.seen c.args.store.now).told) ((g.S.Store.seen c.save_node.new.store).told) ((g.S.Store.seen c.change_parts-2.new.store).told) (SavesOnly-trans g.S.X.BlockHash.block32 ((g.S.Store.seen c.args.store.now).told) ((g.S.Store.seen c.grown.new.store).told) ((g.S.Store.seen c.save_node.new.store).told) c.in_ok-firsts.ensures.saves c.in_ok-first.ensures.saves) c.in_err-news.ensures.saves
+returns-in_err-behind-clause-saves g t c = (
+  search rules,
+  (SavesOnly-trans g.S.X.BlockHash.block32 ((g.S.Store.seen c.args.store.now).told) ((g.S.Store.seen c.save_node.new.store).told) ((g.S.Store.seen c.change_parts-2.new.store).told) (SavesOnly-trans g.S.X.BlockHash.block32 ((g.S.Store.seen c.args.store.now).told) ((g.S.Store.seen c.grown.new.store).told) ((g.S.Store.seen c.save_node.new.store).told) c.in_ok-firsts.ensures.saves.1 c.in_ok-first.ensures.saves) c.in_ok-news.ensures.saves.1),
+)
 
 pub returns-in_err-behind-clause-touches : goal.returns-in_err-behind-clause-touches
 returns-in_err-behind-clause-touches g t c = λ first a z some is below.

@@ -1,4 +1,4 @@
-use Rattle.std.proofs.Common.{ap, ◌∙◌, length, List, ℕ}
+use Rattle.std.proofs.Common.{ap, ◌∙◌, length, List, ℕ, rules}
 use Rattle.uf_fileedit.specs.Changes.{overlaid}
 use Rattle.std.proofs.lemmas.Result.{err_from_is_err_and}
 use Rattle.uf_fileedit.proofs.Blames.{leaf-bad}
@@ -13,8 +13,11 @@ pub returns-then-block-part-clause-lost : goal.returns-then-block-part-clause-lo
 returns-then-block-part-clause-lost g c = λ p b is before now stood. over-no_bad g.S.X.BlockHash.block32 p (g.S.Store.seen c.args.store.now).told c.args.part.now b (g.S.Store.seen c.need.new.store).lent is before c.in_ok-need.ensures.found.is_held
     (λ e. c.if-block-part.true (ap (λ (l : List ℕ). length l) c.block-block.ensures ∙ e))
 
-pub returns-then-block-part-clause-cause : goal.returns-then-block-part-clause-cause
-returns-then-block-part-clause-cause g c = λ p rows. leaf-bad g.S.X.BlockHash.block32 p rows c.args.part.now c.block-block.result.now (g.S.Store.seen c.args.store.now) (g.S.Store.seen c.need.new.store) c.in_ok-need.ensures.found c.in_ok-need.ensures.cause c.block-block.ensures c.if-block-part.true
+pub returns-then-block-part-clause-reads : goal.returns-then-block-part-clause-reads
+returns-then-block-part-clause-reads g c = (
+  (λ p rows. leaf-bad g.S.X.BlockHash.block32 p rows c.args.part.now c.block-block.result.now (g.S.Store.seen c.args.store.now) (g.S.Store.seen c.need.new.store) c.in_ok-need.ensures.found c.in_ok-need.ensures.cause c.block-block.ensures c.if-block-part.true),
+  search rules,
+)
 
 pub returns-clause-bytes : goal.returns-clause-bytes
 returns-clause-bytes g c = λ p b is before now. over-bytes g.S.X.BlockHash.block32 p (g.S.Store.seen c.args.store.now).told c.args.part.now b (g.S.Store.seen c.need.new.store).lent c.in_ok-laid_over.field-0.items c.args.piece.now c.args.size c.args.offset is before c.in_ok-need.ensures.found.is_held
