@@ -4,8 +4,10 @@ pub mod Bad
 pub mod Missing
 pub mod Moving
 pub mod Opening
+pub mod Over
 pub mod Reading
 pub mod Remade
+pub mod Showing
 pub mod Standing
 pub mod Steps
 pub mod Touches

@@ -44,3 +44,7 @@ module _ (X : List ℕ → List ℕ) (N : List ℕ → ℕ) (p : Profile) where
   abbrev pub FolderMisses : (before now : Seen) → Entry → (Tree → List Held) → Option StoreFault → Type 0
   FolderMisses before now folder need fault = (es : Entries) → IsFolderOver X N p before now [] folder es
       → MissesOnly before.told (need (Dir es)) fault
+
+  -- the same of a put at these names
+  abbrev pub PutMisses : (before now : Seen) → Entry → List (List ℕ) → Option StoreFault → Type 0
+  PutMisses before now folder names fault = FolderMisses before now folder (put_needs names) fault

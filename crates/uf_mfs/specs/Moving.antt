@@ -14,8 +14,8 @@ use Rattle.uf_plain.specs.declared.spot.Lie.TheVariants.{Itself, Below, Apart}
 use Rattle.uf_plain.specs.declared.spot.Spot.{Spot}
 use Rattle.uf_plain.specs.declared.rule.Refused.{Refused}
 use Rattle.uf_plain.specs.Edits.{and_then, at, child, removed}
-use Rattle.uf_plain.specs.Moves.{allowed_move, as_replaceable, as_vacant, folder_at, lie_of, name_of, put_at_spot}
-use Rattle.uf_plain.specs.Moves.{spot_in, spot_names, spotted, target, then_go, told_of}
+use Rattle.uf_plain.specs.Moves.{allowed_move, as_replaceable, as_vacant, folder_at, lie_of, moved_to, name_of}
+use Rattle.uf_plain.specs.Moves.{put_at_spot, shifted, spot_in, spot_names, spotted, target, then_go, told_of}
 use Rattle.uf_store.specs.declared.store.StoreFault.{StoreFault}
 use Rattle.uf_store.specs.declared.store.StoreFault.TheVariants.{Memory}
 use Rattle.uf_store.specs.declared.store.Role.{Role}
@@ -33,9 +33,10 @@ use Rattle.uf_mfs.specs.declared.mfs.Mfs.{Mfs}
 use Rattle.uf_mfs.specs.declared.target.MoveTarget.{MoveTarget}
 use Rattle.uf_mfs.specs.declared.thing.Thing.{Thing}
 use Rattle.uf_mfs.specs.declared.thing.Thing.TheVariants.{File as FileAt, Folder as FolderAt}
+use Rattle.uf_mfs.specs.Over.{OverFolder, OverTree}
 use Rattle.uf_mfs.specs.Standing.{IsAfter, IsAgreedMember, IsAgreedThing, StandsAfter, StandsAt}
 use Rattle.uf_mfs.specs.Steps.{IsFolderOver, tree_fault}
-use Rattle.uf_mfs.specs.Touches.{crossings_of, weighing_at, where_done}
+use Rattle.uf_mfs.specs.Touches.{TouchesTree, crossings_of, weighing_at, where_done}
 
 -- what a call gives where the plain tree gives this: what stands for that, or the rule that refuses it, or a fault of
 -- the store that may come
@@ -118,6 +119,21 @@ module _ (X : List ℕ → List ℕ) (N : List ℕ → ℕ) where
   GivesOver told p es P w r = GivesOr (IsLossOf told (blocks X N p (Dir es))) P w r
 
   module _ (before now : Seen) where
+    -- this spot in the folder of this entry is answered, or a rule refuses it, or one of the folder's blocks is lost
+    abbrev pub GivesSpot : Entry → (Entries → Result Spot Rule) → Result Spot MfsFault → Type 0
+    GivesSpot folder spot result = OverFolder X N before now folder
+        (λ p es. GivesOver before.told p es (λ spot given. given ≡ spot) (spot es) result)
+
+    -- this spot in the tree in memory is answered, or a rule refuses it, or one of the tree's blocks is lost
+    abbrev pub SpotsOver : Mfs → (Entries → Result Spot Rule) → Result Spot MfsFault → Type 0
+    SpotsOver mfs spot result = OverTree X N before now mfs
+        (λ p es. GivesOver before.told p es (λ spot given. given ≡ spot) (spot es) result)
+
+    -- where a move goes is answered so
+    abbrev pub FindsTarget : Entry → (Entries → Result (Spot × Entries) Rule) → Result MoveTarget MfsFault → Type 0
+    FindsTarget folder found result = OverFolder X N before now folder
+        (λ p es. GivesOver before.told p es (IsFound before.told p) (found es) result)
+
     -- the root moves to that of the next tree, or a rule refuses it, or one of the old tree's blocks is lost
     abbrev pub MovesRoot : (was : Mfs) → (Profile → Entries → Result Entries Rule) → Result Entry MfsFault → Type 0
     MovesRoot was next result = (p : Profile) (es : Entries) → was.profile ≡ p
@@ -152,6 +168,18 @@ module _ (X : List ℕ → List ℕ) (N : List ℕ → ℕ) where
     MovesHeld was is next result = (p : Profile) (es : Entries) → StandsAt X N before.told was p es
         → Stood before.faults now.faults → Stood before.clashes now.clashes
         → Gives (λ fs done. StandsAt X N now.told is p fs) (next p es) result
+
+    -- the tree in memory moves so, where what it would become may have no plan
+    abbrev pub CarriesOver : (was is : Mfs) → (Entries → Result Entries Rule) → Result Unit MfsFault → Type 0
+    CarriesOver was is next result = MovesBy was is (λ p es. allowed_move X N p (next es)) result
+
+    -- the same where all the old tree's blocks are held
+    abbrev pub CarriesHeld : (was is : Mfs) → (Entries → Result Entries Rule) → Result Unit MfsFault → Type 0
+    CarriesHeld was is next result = MovesHeld was is (λ p es. allowed_move X N p (next es)) result
+
+    -- the same of the root
+    abbrev pub CarriesRoot : Mfs → (Entries → Result Entries Rule) → Result Entry MfsFault → Type 0
+    CarriesRoot was next result = MovesRoot was (λ p es. allowed_move X N p (next es)) result
 
 -- a move goes to where its source is
 abbrev pub IsOntoItself : List (List ℕ) → Path → Entries → Type 0
@@ -203,3 +231,36 @@ module _ (X : List ℕ → List ℕ) (N : List ℕ → ℕ) (p : Profile) where
         ]
         | Err why ↦ 0
       ]
+
+module _ (X : List ℕ → List ℕ) (N : List ℕ → ℕ) (before now : Seen) (was : Mfs) where
+  -- so many touches are enough for a copy in the tree in memory
+  abbrev pub TouchesCopy : List (List ℕ) → Path → ℕ → ℕ → Type 0
+  TouchesCopy source dest t0 t1 = TouchesTree X N before now was (copy_bound X N was.profile source dest) t0 t1
+
+  -- and for a move
+  abbrev pub TouchesMove : List (List ℕ) → Path → ℕ → ℕ → Type 0
+  TouchesMove source dest t0 t1 = TouchesTree X N before now was (move_bound X N was.profile source dest) t0 t1
+
+  module _ (source : List (List ℕ)) (thing : Thing) where
+    -- what is at these names, which was found as this thing, moves to what was found as its target
+    abbrev pub MovesFound : MoveTarget → Result Entry MfsFault → Type 0
+    MovesFound target result = (t : Tree) (found : Spot × Entries)
+        → IsFound X N before.told was.profile found target
+        → MovesThing X N before now was source t thing (moved_to source t found) result
+
+    -- and so many touches are enough for it: a few for each name of both, and those of the removal and of the put
+    abbrev pub TouchesFound : MoveTarget → ℕ → ℕ → Type 0
+    TouchesFound target t0 t1 = (t : Tree) (found : Spot × Entries)
+        → IsFound X N before.told was.profile found target → TouchesThing X N before now was source t thing
+        (λ es. 40 * (length source + length target.names) + found_crossings X N was.profile source found t es) t0 t1
+
+    -- it is taken away, and put at the spot of these names
+    abbrev pub MovesToSpot : List (List ℕ) → Result Entry MfsFault → Type 0
+    MovesToSpot names result = (t : Tree) (spot : Spot) → names ≡ spot_names spot
+        → MovesThing X N before now was source t thing (shifted source spot t) result
+
+    -- and so many touches are enough for it
+    abbrev pub TouchesToSpot : List (List ℕ) → ℕ → ℕ → Type 0
+    TouchesToSpot names t0 t1 = (t : Tree) (spot : Spot) → names ≡ spot_names spot
+        → TouchesThing X N before now was source t thing
+        (λ es. 40 * (length source + length names) + shift_crossings X N was.profile source spot t es) t0 t1

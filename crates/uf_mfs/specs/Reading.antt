@@ -1,11 +1,11 @@
 -- A file of the tree read.
-use Rattle.std.specs.Prelude.{◌≡◌, ◌⊎◌, ◌<◌, ◌+◌, ◌*◌, ◌-◌, ◌^◌, ℕ, List, [], length, max}
+use Rattle.std.specs.Prelude.{◌≡◌, ◌≢◌, ◌≤◌, ◌⊎◌, ◌<◌, ◌+◌, ◌*◌, ◌-◌, ◌^◌, ℕ, List, [], length, max}
 use Rattle.std.specs.declared.option.Option.TheVariants.{None}
 use Rattle.std.specs.declared.result.Result.{Result}
 use Rattle.std.specs.declared.result.Result.TheVariants.{Ok, Err}
 use Rattle.uf_cid.specs.Blocks.{Held}
 use Rattle.uf_cid.specs.declared.cid.Cid.{Cid}
-use Rattle.uf_edge.specs.Counts.{Rose}
+use Rattle.uf_edge.specs.Counts.{Rose, Stood}
 use Rattle.uf_edge.specs.Streams.{Told as SinkTold, after}
 use Rattle.uf_fileread.specs.Bad.{IsBadInFile}
 use Rattle.uf_fileread.specs.declared.fault.RangeFault.{RangeFault}
@@ -14,15 +14,23 @@ use Rattle.uf_fileread.specs.Ranges.{blocks_read, pieces_met}
 use Rattle.uf_store.specs.declared.store.Role.{Role}
 use Rattle.uf_store.specs.Contents.{Told}
 use Rattle.uf_store.specs.Faults.{Shows, StaysCalm}
+use Rattle.uf_store.specs.Lost.{IsLossOf}
 use Rattle.uf_store.specs.Seen.{Seen}
 use Rattle.uf_tree.specs.declared.meta.Meta.{Meta}
 use Rattle.uf_tree.specs.declared.profile.Profile.{Profile}
 use Rattle.uf_tree.specs.FileSub.{IsFileHeight, IsHeight, lowest}
-use Rattle.uf_tree.specs.Tree.{Tree, File, Dir}
+use Rattle.uf_tree.specs.Tree.{Tree, File, Dir, Entries}
+use Rattle.uf_plain.specs.Edits.{at}
+use Rattle.uf_plain.specs.Files.{read as range_at}
+use Rattle.uf_plain.specs.Needs.{needs_at}
 use Rattle.uf_plain.specs.declared.rule.Refused.{Refused}
 use Rattle.uf_mfs.specs.declared.fault.MfsFault.{MfsFault}
 use Rattle.uf_mfs.specs.declared.fault.MfsFault.TheVariants as fault
+use Rattle.uf_mfs.specs.declared.mfs.Mfs.{Mfs}
+use Rattle.uf_mfs.specs.Answers.{Answers, AnswersOr}
 use Rattle.uf_mfs.specs.Bad.{IsBadInTree}
+use Rattle.uf_mfs.specs.Standing.{StandsAt, StandsOver}
+use Rattle.uf_mfs.specs.Touches.{read_bound}
 
 -- the fault of a reading of a range as that of a call
 abbrev pub IsRangeFault : RangeFault → MfsFault → Type 0
@@ -83,3 +91,25 @@ ShownSending hash IsBad (Err (fault.Ready ready)) before now faults faults_now =
 ShownSending hash IsBad (Err fault.Sink) before now faults faults_now = StaysCalm before now × Rose faults faults_now
 ShownSending hash IsBad (Err (fault.Store f)) before now faults faults_now =
     Shows hash IsBad f before now × (faults_now ≡ faults)
+
+module _ (X : List ℕ → List ℕ) (N : List ℕ → ℕ) (before now : Seen) (mfs : Mfs) (offset count : ℕ) where
+  -- of the tree in memory, whose blocks are all held, the range of the file at these names is sent, or what refuses
+  -- that is answered
+  abbrev pub SendsHeld : List (List ℕ) → SinkTold → SinkTold → Result ℕ MfsFault → Type 0
+  SendsHeld names held held_now result = (p : Profile) (es : Entries) → StandsAt X N before.told mfs p es
+      → Stood before.faults now.faults → result ≢ Err fault.Sink
+      → Answers (λ bytes n. SendsAll held held_now bytes n) names (range_at offset count names es) result
+
+  -- the same where some of its blocks may be lost: or one of those that the range needs is lost
+  abbrev pub SendsOver : List (List ℕ) → SinkTold → SinkTold → Result ℕ MfsFault → Type 0
+  SendsOver names held held_now result = (p : Profile) (es : Entries) (height : ℕ)
+      → StandsOver X N before.told mfs p es → IsHeightOf p height (at 0 names (Dir es))
+      → Stood before.faults now.faults → result ≢ Err fault.Sink
+      → AnswersOr (IsLossOf before.told (needs_at X N p (range_needs X p height offset count) names (Dir es)))
+      (λ bytes n. SendsAll held held_now bytes n) names (range_at offset count names es) result
+
+  -- and so many touches are enough: a few for each name, and those of the range
+  abbrev pub TouchesRange : List (List ℕ) → (was is : ℕ) → Type 0
+  TouchesRange names was is = (p : Profile) (es : Entries) (rows : ℕ → ℕ) → StandsOver X N before.told mfs p es
+      → AreHeights p rows → Stood before.faults now.faults
+      → is ≤ was + read_bound (range_touches p rows offset count) names (Dir es)

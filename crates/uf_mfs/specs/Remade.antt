@@ -9,7 +9,10 @@ use Rattle.uf_cid.specs.declared.cid.Cid.{Cid}
 use Rattle.uf_fileread.specs.Bad.{IsBadRoot}
 use Rattle.uf_store.specs.declared.store.Role.{Role}
 use Rattle.uf_store.specs.Contents.{Told}
+use Rattle.uf_store.specs.Calls.{Calm}
+use Rattle.uf_store.specs.Keeping.{StaysAgreed}
 use Rattle.uf_store.specs.Lost.{IsLossOf}
+use Rattle.uf_store.specs.Seen.{Seen}
 use Rattle.uf_tree.specs.declared.meta.Meta.{Meta}
 use Rattle.uf_tree.specs.declared.nodes.Entry.{Entry}
 use Rattle.uf_tree.specs.declared.profile.Profile.{Profile}
@@ -20,10 +23,11 @@ use Rattle.uf_plain.specs.declared.rule.Refused.TheVariants.{NotFound}
 use Rattle.uf_plain.specs.Metas.{meta_after, remade, with_meta}
 use Rattle.uf_plain.specs.Rules.{unless}
 use Rattle.uf_mfs.specs.declared.fault.Stop.{Stop}
+use Rattle.uf_mfs.specs.declared.thing.Thing.{Thing}
 use Rattle.uf_mfs.specs.declared.fault.Stop.TheVariants as stop
 use Rattle.uf_mfs.specs.Answers.{MeetsOr}
 use Rattle.uf_mfs.specs.Bad.{IsBadInTree}
-use Rattle.uf_mfs.specs.Standing.{IsAfter}
+use Rattle.uf_mfs.specs.Standing.{IsAfter, IsAgreedMember, IsAgreedThing}
 
 -- a block that isn't canonical on the way to what is changed in the tree with this root, or as the root of a file
 abbrev pub IsBadRemadeIn : (List ℕ → List ℕ) → (List ℕ → ℕ) → Profile → Cid → Role → List ℕ → Type 0
@@ -52,3 +56,15 @@ module _ (X : List ℕ → List ℕ) (N : List ℕ → ℕ) (p : Profile) (befor
 abbrev pub member_blocks : (List ℕ → List ℕ) → (List ℕ → ℕ) → Profile → Option Tree → List Held
 member_blocks X N p None = []
 member_blocks X N p (Some t) = blocks X N p t
+
+-- where the store agrees with the blocks of what was met before and after, and stayed calm, this holds of its tree
+abbrev pub CalmThing : (List ℕ → List ℕ) → (List ℕ → ℕ) → Profile → (before now : Seen) → Thing
+    → (Told → Told → Tree → Type 0) → Type 0
+CalmThing X N p before now thing P = (t : Tree) → IsAgreedThing X N before.told p t thing
+    → StaysAgreed before.told now.told (blocks X N p t) → Calm before now → P before.told now.told t
+
+-- the same of what was found under a name
+abbrev pub CalmMember : (List ℕ → List ℕ) → (List ℕ → ℕ) → Profile → (before now : Seen) → Option Thing
+    → (Told → Told → Option Tree → Type 0) → Type 0
+CalmMember X N p before now found P = (o : Option Tree) → IsAgreedMember X N before.told p o found
+    → StaysAgreed before.told now.told (member_blocks X N p o) → Calm before now → P before.told now.told o

@@ -1,5 +1,5 @@
 -- Steps below a command: the store's fault in what they answer, and what an edit of a folder does.
-use Rattle.std.specs.Prelude.{◌≡◌, ℕ, List, ◌++◌, Bool, true, false}
+use Rattle.std.specs.Prelude.{◌≡◌, ◌≢◌, ℕ, List, [], ◌++◌, Bool, true, false}
 use Rattle.std.specs.declared.option.Option.{Option}
 use Rattle.std.specs.declared.option.Option.TheVariants.{None, Some}
 use Rattle.std.specs.declared.result.Result.{Result}
@@ -9,6 +9,7 @@ use Rattle.uf_store.specs.declared.store.StoreFault.{StoreFault}
 use Rattle.uf_store.specs.Calls.{Calm}
 use Rattle.uf_store.specs.Contents.{Told}
 use Rattle.uf_store.specs.Keeping.{StaysAgreed}
+use Rattle.uf_edge.specs.Counts.{Stood}
 use Rattle.uf_store.specs.Seen.{Seen}
 use Rattle.uf_tree.specs.declared.nodes.Entry.{Entry}
 use Rattle.uf_tree.specs.declared.profile.Profile.{Profile}
@@ -18,14 +19,17 @@ use Rattle.uf_plain.specs.declared.change.Change.{Change}
 use Rattle.uf_plain.specs.declared.change.Change.TheVariants.{Make, Put, Remove}
 use Rattle.uf_plain.specs.declared.rule.Refused.{Refused}
 use Rattle.uf_plain.specs.declared.rule.Refused.TheVariants.{Exists, RootRefused}
+use Rattle.uf_plain.specs.Edits.{child, without_child}
+use Rattle.uf_plain.specs.Moves.{put_at_spot, spot_names}
+use Rattle.uf_plain.specs.declared.spot.Spot.{Spot}
 use Rattle.uf_plain.specs.Rules.{allowed}
 use Rattle.uf_mfs.specs.declared.fault.MfsFault.{MfsFault}
 use Rattle.uf_mfs.specs.declared.fault.MfsFault.TheVariants as fault
 use Rattle.uf_mfs.specs.declared.fault.Stop.{Stop}
 use Rattle.uf_mfs.specs.declared.fault.Stop.TheVariants as stop
 use Rattle.uf_mfs.specs.declared.mfs.Mfs.{Mfs}
-use Rattle.uf_mfs.specs.Answers.{EditsAfter, MovesAfter}
-use Rattle.uf_mfs.specs.Standing.{IsAgreed, IsPlanOf}
+use Rattle.uf_mfs.specs.Answers.{EditsAfter, MovesAfter, MovesTo}
+use Rattle.uf_mfs.specs.Standing.{IsAgreed, IsEntry, IsPlanOf, StandsAt}
 
 -- the store's fault in the answer of a step
 abbrev pub stop_fault : {A : Type 0} → Result A Stop → Option StoreFault
@@ -71,6 +75,23 @@ module _ (X : List ℕ → List ℕ) (N : List ℕ → ℕ) (p : Profile) (befor
   ChangesFolder folder edit result =
       (es : Entries) → IsFolderOver folder es → ChangesOver es (edit es) result
 
+module _ (X : List ℕ → List ℕ) (N : List ℕ → ℕ) (p : Profile) (before now : Seen) where
+  -- of each such folder that has a member of this name it is taken away
+  abbrev pub TakesMember : Entry → List ℕ → Result (Option Entry) Stop → Type 0
+  TakesMember folder name result = (es : Entries) → child name es ≢ None → IsFolderOver X N p before now [] folder es
+      → ChangesOver X N p before now [] es (Ok (without_child name es)) result
+
+  -- of each such folder, where this entry is put into it, this edit is answered, by the tree that the entry stands for
+  abbrev pub ChangesPut : (entry folder : Entry) → (Tree → Entries → Result Entries Refused)
+      → Result (Option Entry) Stop → Type 0
+  ChangesPut entry folder edit result = (t : Tree) → IsPlanOf X N p entry t
+      → ChangesFolder X N p before now (blocks X N p t) folder (edit t) result
+
+  -- the same of an edit of the root
+  abbrev pub EditsPut : (entry root : Entry) → (Tree → Entries → Result Entries Refused) → Result Entry Stop → Type 0
+  EditsPut entry root edit result = (t : Tree) → IsPlanOf X N p entry t
+      → EditsFolder X N p before now (blocks X N p t) root (edit t) result
+
 module _ (X : List ℕ → List ℕ) (N : List ℕ → ℕ) (before now : Seen) where
   -- the tree in memory moves to the next one, or is refused, or one of the old tree's blocks or of these others is lost
   abbrev pub MovesTree : List Held → (was is : Mfs) → List (List ℕ) → (Profile → Entries → Result Entries Refused)
@@ -78,6 +99,35 @@ module _ (X : List ℕ → List ℕ) (N : List ℕ → ℕ) (before now : Seen) 
   MovesTree more was is names next result = (p : Profile) (es : Entries) → was.profile ≡ p
       → IsFolderOver X N p before now more was.root es
       → MovesAfter X N before.told now.told (more ++ blocks X N p (Dir es)) p names is (next p es) result
+
+  -- the same where all the old tree's blocks are held: all of the next one's are then, or memory was wanting
+  abbrev pub MovesWhole : (was is : Mfs) → List (List ℕ) → (Profile → Entries → Result Entries Refused)
+      → Result Unit MfsFault → Type 0
+  MovesWhole was is names next result = (p : Profile) (es : Entries) → StandsAt X N before.told was p es
+      → Stood before.faults now.faults → Stood before.clashes now.clashes
+      → MovesTo X N now.told p names is (next p es) result
+
+  -- the tree in memory moves so by an edit at these names, after which it may have no plan
+  abbrev pub EditsAgreed : (was is : Mfs) → List (List ℕ) → (List (List ℕ) → Entries → Result Entries Refused)
+      → Result Unit MfsFault → Type 0
+  EditsAgreed was is names edit result = MovesTree [] was is names (λ p es. allowed X N p (edit names es)) result
+
+  -- the same where all the old tree's blocks are held
+  abbrev pub EditsWhole : (was is : Mfs) → List (List ℕ) → (List (List ℕ) → Entries → Result Entries Refused)
+      → Result Unit MfsFault → Type 0
+  EditsWhole was is names edit result = MovesWhole was is names (λ p es. allowed X N p (edit names es)) result
+
+  -- the tree in memory moves so by a put of this entry, whatever tree it stands for
+  abbrev pub PlacesAgreed : (was is : Mfs) → Entry → Spot → Result Unit MfsFault → Type 0
+  PlacesAgreed was is e spot result = (t : Tree) → IsPlanOf X N was.profile e t
+      → MovesTree (blocks X N was.profile t) was is (spot_names spot)
+      (λ p es. allowed X N p (put_at_spot spot t es)) result
+
+  -- the same where all blocks of both are held
+  abbrev pub PlacesWhole : (was is : Mfs) → Entry → Spot → Result Unit MfsFault → Type 0
+  PlacesWhole was is e spot result = (t : Tree) (p : Profile) (es : Entries) → IsEntry X N before.told p e t
+      → StandsAt X N before.told was p es → Stood before.faults now.faults → Stood before.clashes now.clashes
+      → MovesTo X N now.told p (spot_names spot) is (allowed X N p (put_at_spot spot t es)) result
 
 -- why the root isn't edited so
 abbrev pub refused_root : Change → Refused

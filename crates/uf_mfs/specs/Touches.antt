@@ -1,5 +1,5 @@
 -- How the count of touches moves, and how many an edit of a tree may need beyond a few for each name.
-use Rattle.std.specs.Prelude.{ℕ, ◌<◌, ◌≤◌, ◌+◌, ◌*◌, List, [], ◌∷◌, length, ⊤}
+use Rattle.std.specs.Prelude.{◌≡◌, ℕ, ◌<◌, ◌≤◌, ◌+◌, ◌*◌, List, [], ◌∷◌, length, ⊤}
 use Rattle.std.specs.declared.option.Option.{Option}
 use Rattle.std.specs.declared.option.Option.TheVariants.{None, Some}
 use Rattle.std.specs.declared.result.Result.{Result}
@@ -12,15 +12,17 @@ use Rattle.uf_tree.specs.declared.nodes.Entry.{Entry}
 use Rattle.uf_tree.specs.declared.profile.Profile.{Profile}
 use Rattle.uf_tree.specs.Tree.{Tree, File, Dir, Entries, Nothing, pairs}
 use Rattle.uf_tree.specs.Metas.{none}
-use Rattle.uf_tree.specs.TreePlan.{named_entries}
+use Rattle.uf_tree.specs.TreePlan.{blocks, named_entries}
 use Rattle.uf_dir.specs.Bounds.{crossing, weighing_from}
 use Rattle.uf_plain.specs.declared.change.Change.{Change}
 use Rattle.uf_plain.specs.declared.change.Change.TheVariants.{Make, Put, Remove}
 use Rattle.uf_plain.specs.declared.rule.Refused.{Refused}
-use Rattle.uf_plain.specs.Edits.{at, child}
+use Rattle.uf_plain.specs.Edits.{at, child, with_child, without_child}
 use Rattle.uf_plain.specs.Needs.{own_needs}
 use Rattle.uf_mfs.specs.declared.thing.Thing.{Thing}
 use Rattle.uf_mfs.specs.declared.thing.Thing.TheVariants.{File as FileAt, Folder as FolderAt}
+use Rattle.uf_mfs.specs.declared.mfs.Mfs.{Mfs}
+use Rattle.uf_mfs.specs.Standing.{IsPlanOf}
 use Rattle.uf_mfs.specs.Steps.{IsFolderOver}
 
 -- a block is blamed
@@ -99,6 +101,15 @@ module _ (X : List ℕ → List ℕ) (N : List ℕ → ℕ) (p : Profile) where
   abbrev pub touch_bound : List (List ℕ) → Entries → Result Entries Refused → ℕ
   touch_bound names es next = 64 * (length names + 3) + crossings_of names es next
 
+  -- the same of a removal, which weighs the directory that loses the name, where it is done
+  abbrev pub removal_bound : List (List ℕ) → Entries → Result Entries Refused → ℕ
+  removal_bound names es next = touch_bound names es next + where_done next (weighing_at names es)
+
+  -- a folder after an edit at these names: a few touches for each, and those of directories that become sharded or
+  -- basic
+  abbrev pub edit_bound : List (List ℕ) → (Entries → Result Entries Refused) → Entries → ℕ
+  edit_bound names edit es = 40 * length names + crossings_of names es (edit es)
+
   -- the names of a directory: its own blocks
   abbrev pub names_touches : Tree → ℕ
   names_touches t = length (own_needs X N p t)
@@ -112,3 +123,45 @@ module _ (X : List ℕ → List ℕ) (N : List ℕ → ℕ) (p : Profile) where
   abbrev pub TouchesFolder : (before now : Seen) → List Held → Entry → (Entries → ℕ) → ℕ → ℕ → Type 0
   TouchesFolder before now more folder bound was is = (es : Entries) → IsFolderOver X N p before now more folder es
       → is ≤ was + bound es
+
+  -- the same of an edit at these names
+  abbrev pub TouchesMaking : (before now : Seen) → Entry → List (List ℕ)
+      → (List (List ℕ) → Entries → Result Entries Refused) → ℕ → ℕ → Type 0
+  TouchesMaking before now folder names edit was is =
+      TouchesFolder before now [] folder (edit_bound names (edit names)) was is
+
+  -- the same of a put of this entry, by the tree that it stands for
+  abbrev pub TouchesPut : (before now : Seen) → (entry folder : Entry) → (Tree → Entries → ℕ) → ℕ → ℕ → Type 0
+  TouchesPut before now entry folder bound was is = (t : Tree) → IsPlanOf X N p entry t
+      → TouchesFolder before now (blocks X N p t) folder (bound t) was is
+
+  -- a directory of the first entries that becomes one of the others
+  abbrev pub crossed : Entries → Entries → ℕ
+  crossed es fs = crossing X N p (named_entries X N p es) (named_entries X N p fs)
+
+  -- a put under this name: so many touches, and those of a directory that becomes sharded
+  abbrev pub putting_bound : ℕ → List ℕ → Tree → Entries → ℕ
+  putting_bound few name t es = few + crossed es (with_child name t es)
+
+  -- a name taken away: the weighing of the directory, and its becoming basic
+  abbrev pub taking_bound : List ℕ → Entries → ℕ
+  taking_bound name es = 18 + weighing_from X N p name (named_entries X N p es) + crossed es (without_child name es)
+
+module _ (X : List ℕ → List ℕ) (N : List ℕ → ℕ) (before now : Seen) where
+  -- of the tree in memory, with whose blocks the store agrees before and after, so many touches are enough
+  abbrev pub TouchesTree : Mfs → (Entries → ℕ) → (was is : ℕ) → Type 0
+  TouchesTree mfs bound was is = TouchesFolder X N mfs.profile before now [] mfs.root bound was is
+
+  -- the same by its profile
+  abbrev pub TouchesBy : Mfs → (Profile → Entries → ℕ) → (was is : ℕ) → Type 0
+  TouchesBy mfs bound was is = (p : Profile) → mfs.profile ≡ p
+      → TouchesFolder X N p before now [] mfs.root (bound p) was is
+
+  -- the same of an edit at these names
+  abbrev pub TouchesEdit : Mfs → List (List ℕ) → (List (List ℕ) → Entries → Result Entries Refused) → (was is : ℕ)
+      → Type 0
+  TouchesEdit mfs names edit was is = TouchesBy mfs (λ p es. touch_bound X N p names es (edit names es)) was is
+
+  -- the same where no directory becomes sharded or basic: a few touches for each name
+  abbrev pub TouchesNames : Mfs → List (List ℕ) → (was is : ℕ) → Type 0
+  TouchesNames mfs names was is = TouchesTree mfs (λ es. 64 * (length names + 3)) was is

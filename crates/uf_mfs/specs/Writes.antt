@@ -1,5 +1,5 @@
 -- A file of the tree written into and cut.
-use Rattle.std.specs.Prelude.{◌≡◌, ◌⊎◌, ◌+◌, ℕ, List, [], ◌∷◌, length, max, Bool, false, not, nat_lt}
+use Rattle.std.specs.Prelude.{◌≡◌, ◌⊎◌, ◌+◌, ◌≤◌, ℕ, List, [], ◌∷◌, length, max, Bool, false, not, nat_lt}
 use Rattle.std.specs.Prelude.{if◌then◌else◌}
 use Rattle.std.specs.declared.option.Option.{Option}
 use Rattle.std.specs.declared.option.Option.TheVariants.{None, Some}
@@ -12,7 +12,7 @@ use Rattle.uf_cid.specs.declared.cid.Cid.{Cid}
 use Rattle.uf_fileedit.specs.Bad.{IsBadEdited}
 use Rattle.uf_fileedit.specs.Touches.{cut_chunks, edit_touches, written_chunks}
 use Rattle.uf_store.specs.declared.store.Role.{Role}
-use Rattle.uf_store.specs.Calls.{Calm}
+use Rattle.uf_store.specs.Calls.{Calm, OnlySaves}
 use Rattle.uf_store.specs.Contents.{Told}
 use Rattle.uf_store.specs.Keeping.{StaysAgreed}
 use Rattle.uf_store.specs.Lost.{IsLossOf}
@@ -21,25 +21,29 @@ use Rattle.uf_tree.specs.declared.nodes.Entry.{Entry}
 use Rattle.uf_tree.specs.declared.meta.Meta.{Meta}
 use Rattle.uf_tree.specs.declared.profile.Profile.{Profile}
 use Rattle.uf_tree.specs.Profiles.{most_bytes}
-use Rattle.uf_tree.specs.Tree.{Tree, File, Entries}
+use Rattle.uf_tree.specs.Tree.{Tree, File, Dir, Entries}
 use Rattle.uf_tree.specs.TreePlan.{blocks}
 use Rattle.uf_plain.specs.declared.file.FileEdit.{FileEdit}
 use Rattle.uf_plain.specs.declared.file.FileEdit.TheVariants.{Write, Truncate}
+use Rattle.uf_plain.specs.declared.file.WriteHow.{WriteHow}
 use Rattle.uf_plain.specs.declared.rule.Refused.{Refused}
 use Rattle.uf_plain.specs.declared.rule.Refused.TheVariants as why
 use Rattle.uf_plain.specs.Edits.{and_then, child, edited, with_child}
 use Rattle.uf_plain.specs.Files.{begun, fitting, kept_meta, new_bytes, rewritten}
 use Rattle.uf_mfs.specs.declared.fault.Stop.{Stop}
 use Rattle.uf_mfs.specs.declared.fault.Stop.TheVariants as stop
+use Rattle.uf_mfs.specs.declared.editing.EditSite.{EditSite}
+use Rattle.uf_mfs.specs.declared.mfs.Mfs.{Mfs}
 use Rattle.uf_mfs.specs.declared.thing.Thing.{Thing}
 use Rattle.uf_mfs.specs.declared.thing.Thing.TheVariants.{File as FileAt, Folder as FolderAt}
 use Rattle.uf_mfs.specs.declared.writing.Start.{Start}
 use Rattle.uf_mfs.specs.declared.writing.Start.TheVariants.{Empty, There}
 use Rattle.uf_mfs.specs.Answers.{MeetsOr}
 use Rattle.uf_mfs.specs.Bad.{IsBadInTree}
-use Rattle.uf_mfs.specs.Standing.{IsAfter, IsAgreed, IsPlanOf}
-use Rattle.uf_mfs.specs.Reading.{rows_with}
-use Rattle.uf_mfs.specs.Touches.{entries_at, touch_bound, where_done}
+use Rattle.uf_mfs.specs.Standing.{IsAfter, IsAgreed, IsAgreedMember, IsPlanOf}
+use Rattle.uf_mfs.specs.Reading.{AreHeights, rows_with}
+use Rattle.uf_mfs.specs.Steps.{IsFolderOver, stop_fault}
+use Rattle.uf_mfs.specs.Touches.{TouchesFolder, entries_at, touch_bound, where_done}
 
 -- a block that isn't canonical at its place in some file
 abbrev pub IsBadInSome : (List ℕ → List ℕ) → Profile → Told → Role → List ℕ → Type 0
@@ -146,3 +150,51 @@ abbrev pub writing_bound : (List ℕ → List ℕ) → (List ℕ → ℕ) → Pr
 writing_bound X N p rows what piece names es =
     let next = fitting_edit p what piece names es in
     touch_bound X N p names es next + where_done next (file_touches p rows what piece (member_at names es))
+
+module _ (X : List ℕ → List ℕ) (N : List ℕ → ℕ) (before now : Seen) where
+  -- so many touches are enough for an edit of the file at these names of the tree in memory
+  abbrev pub TouchesWriting : Mfs → FileEdit → List ℕ → List (List ℕ) → (was is : ℕ) → Type 0
+  TouchesWriting mfs what piece names was is = (p : Profile) (rows : ℕ → ℕ) → mfs.profile ≡ p → AreHeights p rows
+      → TouchesFolder X N p before now [] mfs.root (writing_bound X N p rows what piece names) was is
+
+-- a step that edits the file with this root, or one that it makes
+abbrev pub SavesEdited : (List ℕ → List ℕ) → Profile → Cid → Result Entry Stop → Seen → Seen → Type 0
+SavesEdited X p root result before now = OnlySaves X (IsBadEdited X p now.told root) (stop_fault result) before now
+
+module _ (X : List ℕ → List ℕ) (before now : Seen) (site : EditSite) (what : FileEdit) (found : Option Thing) where
+  -- in each folder where this was found under some name, over the folder's blocks, the file is made that the edit
+  -- makes of it
+  abbrev pub MakesMember : Result Entry Stop → Type 0
+  MakesMember result = (N : List ℕ → ℕ) (folder : Entry) (name : List ℕ) (es : Entries)
+      → IsAgreedMember X N before.told site.profile (child name es) found
+      → IsFolderOver X N site.profile before now [] folder es
+      → MakesFile X N site.profile before now (blocks X N site.profile (Dir es)) (kept_meta (child name es))
+      (fitting_bytes site.profile what site.piece.now (site.led + 1) (child name es)) result
+
+  -- and so many touches are enough for it
+  abbrev pub TouchesMember : (was is : ℕ) → Type 0
+  TouchesMember was is = (N : List ℕ → ℕ) (rows : ℕ → ℕ) (folder : Entry) (name : List ℕ) (es : Entries)
+      → AreHeights site.profile rows → IsAgreedMember X N before.told site.profile (child name es) found
+      → IsFolderOver X N site.profile before now [] folder es
+      → is ≤ was + file_touches site.profile rows what site.piece.now (child name es)
+
+module _ (X : List ℕ → List ℕ) (before now : Seen) (site : EditSite) where
+  -- over the blocks of any folder, the file of this metadata is made that a write makes of no bytes
+  abbrev pub CreatesFile : WriteHow → Meta → Result Entry Stop → Type 0
+  CreatesFile how m result = (N : List ℕ → ℕ) (folder : Entry) (es : Entries)
+      → IsFolderOver X N site.profile before now [] folder es
+      → MakesFile X N site.profile before now (blocks X N site.profile (Dir es)) m
+      (fitting site.profile (rewritten (Write how) site.piece.now [])) result
+
+  -- of the file of this entry, over its blocks, the file is made that an edit makes of it
+  abbrev pub RewritesFile : FileEdit → Entry → Result Entry Stop → Type 0
+  RewritesFile what old result = (N : List ℕ → ℕ) (m : Meta) (bytes : List ℕ)
+      → IsFileOver X N site.profile before now old m bytes
+      → MakesFile X N site.profile before now (blocks X N site.profile (File m bytes)) m
+      (fitting site.profile (rewritten what site.piece.now bytes)) result
+
+  -- and so many touches are enough for it
+  abbrev pub TouchesFile : FileEdit → Entry → (was is : ℕ) → Type 0
+  TouchesFile what old was is = (N : List ℕ → ℕ) (rows : ℕ → ℕ) (m : Meta) (bytes : List ℕ)
+      → AreHeights site.profile rows → IsFileOver X N site.profile before now old m bytes
+      → is ≤ was + rewriting_touches site.profile rows what site.piece.now m bytes

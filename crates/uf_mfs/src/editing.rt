@@ -1,34 +1,31 @@
 //! An edit along a path: each folder on it gets the new entry of the one below.
-ghost use Rattle.std.specs.Prelude.{◌≡◌, ◌≢◌, ◌+◌, ◌*◌, ◌++◌, ◌<◌, ◌≤◌, ◌^◌, List, [], ◌∷◌, ℕ, IfOk, IfSome};
+ghost use Rattle.std.specs.Prelude.{◌≡◌, ◌≢◌, ◌+◌, ◌<◌, ◌≤◌, ◌^◌, [], ◌∷◌, IfOk, IfSome};
 ghost use Rattle.std.specs.Prelude.{IsTrue, None, Ok, Some, length};
-ghost use Rattle.std.specs.declared.option.Option.{Option as TheOption};
-ghost use Rattle.uf_edge.specs.Counts.{Stood};
-ghost use Rattle.uf_store.specs.Contents.{Told};
 ghost use Rattle.uf_tree.specs.declared.profile.Profile.{Profile as TheProfile};
 ghost use Rattle.uf_tree.specs.Metas.{none};
 ghost use Rattle.uf_tree.specs.Names.{is_name};
 ghost use Rattle.uf_tree.specs.Profiles.{is_profile};
-ghost use Rattle.uf_tree.specs.Tree.{Dir, Entries, Nothing, Tree};
-ghost use Rattle.uf_tree.specs.TreePlan.{blocks, named_entries};
-ghost use Rattle.uf_dir.specs.Bounds.{crossing, weighing_from};
-ghost use Rattle.uf_dir.specs.Roots.{IsRootCid};
-ghost use Rattle.uf_mfs.specs.Acts.{HasRows, IsActMeant, IsBadActed, LeavesTree, act_brought, act_touches, acted};
+ghost use Rattle.uf_tree.specs.Tree.{Dir, Nothing};
+ghost use Rattle.uf_mfs.specs.Acts.{ActsAlong, ActsHere, LeavesThere, LeavesTree, MissesAlong};
+ghost use Rattle.uf_mfs.specs.Acts.{MissesHere, SavesActing, TouchesAlong, TouchesActing};
 ghost use Rattle.uf_mfs.specs.Acts.{is_act, may_act};
 ghost use Rattle.uf_mfs.specs.Answers.{Decides};
 ghost use Rattle.uf_mfs.specs.Bad.{IsBadInTree, IsRequired, RequiresDirectory};
-ghost use Rattle.uf_mfs.specs.Missing.{FolderMisses, IsPut, put_needs};
+ghost use Rattle.uf_mfs.specs.Missing.{FolderMisses};
 ghost use Rattle.uf_mfs.specs.Moving.{folder_there};
 ghost use Rattle.uf_store.specs.Calls.{OnlySaves};
-ghost use Rattle.uf_plain.specs.Edits.{as_folder, at, child, done, edited, made_all};
-ghost use Rattle.uf_plain.specs.Edits.{or_new, with_child, without_child};
+ghost use Rattle.uf_plain.specs.Edits.{as_folder, child, made_all};
+ghost use Rattle.uf_plain.specs.Edits.{or_new, with_child};
 ghost use Rattle.uf_plain.specs.Needs.{own_needs};
-ghost use Rattle.uf_mfs.specs.Standing.{IsAgreed, IsAgreedMember, IsPlanOf};
-ghost use Rattle.uf_mfs.specs.Steps.{ChangesFolder, ChangesOver, GivesFolder, IsFolderOver};
+ghost use Rattle.uf_mfs.specs.Standing.{IsAgreed};
+ghost use Rattle.uf_mfs.specs.Steps.{ChangesFolder, ChangesPut, GivesFolder, TakesMember};
 ghost use Rattle.uf_mfs.specs.Steps.{IsOpened, changed_below, opened, stop_fault};
-ghost use Rattle.uf_mfs.specs.Touches.{CountsUp, TouchesFolder, crossings_of};
+ghost use Rattle.uf_mfs.specs.Touches.{TouchesFolder, TouchesMaking, TouchesPut, putting_bound, taking_bound};
+ghost use Rattle.uf_mfs.specs.Over.{FillsNothing, LeavesMember, OfMember, OverFolder};
+ghost use Rattle.uf_mfs.specs.Showing.{MakesRootCid, SavesInTree, StepCounts};
 
 use crate::looking::member;
-use crate::remaking::remade_member;
+use crate::remaking::change_member_meta;
 use crate::writing::{leaves, new_file};
 use crate::{Stop, Thing};
 use std::alloc::Global;
@@ -72,33 +69,17 @@ pub(crate) fn edit<S: Store, N: NameHash, L: Ledger>(
     requires profile { IsTrue (is_profile site.now.profile) }
     requires few { site.now.led + length rest.now + 1 < 2 ^ 64 }
     requires act { IsTrue (is_act site.now.what) }
-    ensures edits { (t : Tree) → IsActMeant S.X.block32 N.name64 site.now.profile site.now.what t
-        → ChangesFolder S.X.block32 N.name64 site.now.profile (S.seen store.old) (S.seen store.new)
-        (act_brought S.X.block32 N.name64 site.now.profile site.now.what t) folder.now
-        (edited (acted site.now.profile site.now.what site.now.piece.now t) site.now.led name.now rest.now) result }
-    ensures idle { (p : TheProfile) (es : Entries) (t : Tree)
-        → IsAgreed S.X.block32 N.name64 (S.seen store.old).told p folder.now (Dir es)
-        → Stood (S.seen store.old).faults (S.seen store.new).faults
-        → at site.now.led (name.now ∷ rest.now) (Dir es) ≡ Ok t → LeavesTree site.now.what site.now.piece.now t
-        → ((S.seen store.new).told ≡ (S.seen store.old).told) × IfOk result (λ new. new ≡ None) }
-    ensures made { IfOk result (λ new. IfSome new (λ e. IsRootCid S.X.block32 (Some site.now.profile) e.cid)) }
-    ensures saves { OnlySaves S.X.block32
-        (IsBadActed S.X.block32 N.name64 site.now.profile (S.seen store.new).told folder.now.cid site.now.what)
-        (stop_fault result) (S.seen store.old) (S.seen store.new) }
-    ensures touches { (t : Tree) (rows : ℕ → ℕ) → IsActMeant S.X.block32 N.name64 site.now.profile site.now.what t
-        → HasRows S.X.block32 N.name64 site.now.profile site.now.what rows
-        → TouchesFolder S.X.block32 N.name64 site.now.profile (S.seen store.old) (S.seen store.new)
-        (act_brought S.X.block32 N.name64 site.now.profile site.now.what t) folder.now
-        (λ es. 40 * (length rest.now + 1) + crossings_of S.X.block32 N.name64 site.now.profile (name.now ∷ rest.now) es
-        (edited (acted site.now.profile site.now.what site.now.piece.now t) site.now.led name.now rest.now es)
-        + act_touches S.X.block32 N.name64 site.now.profile rows site.now.what site.now.piece.now
-        (name.now ∷ rest.now) es
-        (edited (acted site.now.profile site.now.what site.now.piece.now t) site.now.led name.now rest.now es))
-        touches.old touches.new }
-    ensures missing { IsPut site.now.what
-        → FolderMisses S.X.block32 N.name64 site.now.profile (S.seen store.old) (S.seen store.new) folder.now
-        (put_needs S.X.block32 N.name64 site.now.profile (name.now ∷ rest.now)) (stop_fault result) }
-    ensures touched { CountsUp (stop_fault result) touches.old touches.new }
+    ensures edits { ActsAlong S.X.block32 N.name64 (S.seen store.old) (S.seen store.new) site.now folder.now name.now
+        rest.now result }
+    ensures idle { LeavesThere S.X.block32 N.name64 (S.seen store.old) (S.seen store.new) folder.now site.now.led
+        (name.now ∷ rest.now) site.now.what site.now.piece.now (IfOk result (λ new. new ≡ None)) }
+    ensures made { MakesRootCid S.X.block32 site.now.profile result }
+    ensures saves { SavesActing S.X.block32 N.name64 (S.seen store.old) (S.seen store.new) site.now folder.now result }
+    ensures touches { TouchesAlong S.X.block32 N.name64 (S.seen store.old) (S.seen store.new) site.now folder.now
+        name.now rest.now touches.old touches.new }
+    ensures missing { MissesAlong S.X.block32 N.name64 (S.seen store.old) (S.seen store.new) site.now folder.now
+        (name.now ∷ rest.now) result }
+    ensures touched { StepCounts result touches.old touches.new }
 {
     let found = member::<S, N, L>(alloc, store, folder, name, touches)?;
     let [next, more @ ..] = rest else {
@@ -130,17 +111,13 @@ pub(crate) fn fill<S: Store, N: NameHash, L: Ledger>(
     requires few { led + length names.now < 2 ^ 64 }
     ensures fills { ChangesFolder S.X.block32 N.name64 profile.now (S.seen store.old) (S.seen store.new) [] folder.now
         (made_all led names.now) result }
-    ensures there { (es below : Entries)
-        → IsAgreed S.X.block32 N.name64 (S.seen store.old).told profile.now folder.now (Dir es)
-        → Stood (S.seen store.old).faults (S.seen store.new).faults
-        → at led names.now (Dir es) ≡ Ok (Dir below) → ((S.seen store.new).told ≡ (S.seen store.old).told)
-        × IfOk result (λ new. new ≡ None) }
-    ensures saves { OnlySaves S.X.block32 (IsBadInTree S.X.block32 N.name64 (Some profile.now) folder.now.cid)
-        (stop_fault result) (S.seen store.old) (S.seen store.new) }
-    ensures touches { TouchesFolder S.X.block32 N.name64 profile.now (S.seen store.old) (S.seen store.new) []
-        folder.now (λ es. 40 * length names.now + crossings_of S.X.block32 N.name64 profile.now names.now es
-        (made_all led names.now es)) touches.old touches.new }
-    ensures touched { CountsUp (stop_fault result) touches.old touches.new }
+    ensures there { FillsNothing S.X.block32 N.name64 (S.seen store.old) (S.seen store.new) profile.now folder.now led
+        names.now result }
+    ensures saves { SavesInTree S.X.block32 N.name64 profile.now folder.now.cid result (S.seen store.old)
+        (S.seen store.new) }
+    ensures touches { TouchesMaking S.X.block32 N.name64 profile.now (S.seen store.old) (S.seen store.new) folder.now
+        names.now (made_all led) touches.old touches.new }
+    ensures touched { StepCounts result touches.old touches.new }
 {
     let [name, rest @ ..] = names else {
         return Ok(None);
@@ -175,19 +152,16 @@ fn open_or_make<S: Store, N: NameHash, L: Ledger>(
     ensures opens { (p : TheProfile)
         → GivesFolder S.X.block32 N.name64 p (S.seen store.old) (S.seen store.new) [] folder.now
         (λ es. or_new led (child name.now es)) (opened result) }
-    ensures found { (p : TheProfile) (es : Entries)
-        → IsAgreed S.X.block32 N.name64 (S.seen store.old).told p folder.now (Dir es)
-        → Stood (S.seen store.old).faults (S.seen store.new).faults
-        → IfOk result (λ found. IsOpened S.X.block32 N.name64 (S.seen store.new).told p (child name.now es) found) }
-    ensures there { (p : TheProfile) (es : Entries)
-        → IsAgreed S.X.block32 N.name64 (S.seen store.old).told p folder.now (Dir es)
-        → Stood (S.seen store.old).faults (S.seen store.new).faults
-        → child name.now es ≢ None → (S.seen store.new).told ≡ (S.seen store.old).told }
+    ensures found { OverFolder S.X.block32 N.name64 (S.seen store.old) (S.seen store.new) folder.now
+        (λ p es. IfOk result (λ found. IsOpened S.X.block32 N.name64 (S.seen store.new).told p (child name.now es)
+        found)) }
+    ensures there { OverFolder S.X.block32 N.name64 (S.seen store.old) (S.seen store.new) folder.now
+        (λ p es. child name.now es ≢ None → (S.seen store.new).told ≡ (S.seen store.old).told) }
     ensures saves { OnlySaves S.X.block32 (IsBadInTree S.X.block32 N.name64 None folder.now.cid)
         (stop_fault result) (S.seen store.old) (S.seen store.new) }
     ensures required { IfOk result (λ found. RequiresDirectory S.X.block32 folder.now.cid found.0.cid.digest) }
     ensures touches { touches.new ≤ touches.old + 12 }
-    ensures touched { CountsUp (stop_fault result) touches.old touches.new }
+    ensures touched { StepCounts result touches.old touches.new }
 {
     match member::<S, N, L>(alloc, store, folder, name, touches)? {
         None => {
@@ -201,9 +175,8 @@ fn open_or_make<S: Store, N: NameHash, L: Ledger>(
 
 /// The entry of a member that has to be a folder.
 pub(crate) fn folder_of(led: usize, found: Option<Thing>) -> Result<Entry, Refused>
-    ensures decides { (X : List ℕ → List ℕ) (N : List ℕ → ℕ) (told : Told) (p : TheProfile) (o : TheOption Tree)
-        → IsAgreedMember X N told p o found
-        → Decides (λ es e. IsAgreed X N told p e (Dir es)) (as_folder led o) result }
+    ensures decides { OfMember found (λ X N told p o. Decides (λ es e. IsAgreed X N told p e (Dir es))
+        (as_folder led o) result) }
     ensures folder { IfOk result (λ e. folder_there found ≡ Some e) }
 {
     match found {
@@ -227,36 +200,17 @@ fn edit_here<S: Store, N: NameHash, L: Ledger>(
     requires few { site.now.led + 1 < 2 ^ 64 }
     requires act { IsTrue (is_act site.now.what) }
     requires required { IfSome found (IsRequired S.X.block32 folder.now.cid) }
-    ensures edits { (t : Tree) (es : Entries) → IsActMeant S.X.block32 N.name64 site.now.profile site.now.what t
-        → IsAgreedMember S.X.block32 N.name64 (S.seen store.old).told site.now.profile (child name.now es) found
-        → IsFolderOver S.X.block32 N.name64 site.now.profile (S.seen store.old) (S.seen store.new)
-        (act_brought S.X.block32 N.name64 site.now.profile site.now.what t) folder.now es
-        → ChangesOver S.X.block32 N.name64 site.now.profile (S.seen store.old) (S.seen store.new)
-        (act_brought S.X.block32 N.name64 site.now.profile site.now.what t) es
-        (acted site.now.profile site.now.what site.now.piece.now t (site.now.led + 1) name.now es) result }
-    ensures idle { (p : TheProfile) (t : Tree)
-        → IsAgreedMember S.X.block32 N.name64 (S.seen store.old).told p (Some t) found
-        → Stood (S.seen store.old).faults (S.seen store.new).faults
-        → LeavesTree site.now.what site.now.piece.now t
-        → ((S.seen store.new).told ≡ (S.seen store.old).told) × IfOk result (λ new. new ≡ None) }
-    ensures made { IfOk result (λ new. IfSome new (λ e. IsRootCid S.X.block32 (Some site.now.profile) e.cid)) }
-    ensures saves { OnlySaves S.X.block32
-        (IsBadActed S.X.block32 N.name64 site.now.profile (S.seen store.new).told folder.now.cid site.now.what)
-        (stop_fault result) (S.seen store.old) (S.seen store.new) }
-    ensures touches { (t : Tree) (rows : ℕ → ℕ) (es : Entries)
-        → IsActMeant S.X.block32 N.name64 site.now.profile site.now.what t
-        → HasRows S.X.block32 N.name64 site.now.profile site.now.what rows
-        → IsAgreedMember S.X.block32 N.name64 (S.seen store.old).told site.now.profile (child name.now es) found
-        → IsFolderOver S.X.block32 N.name64 site.now.profile (S.seen store.old) (S.seen store.new)
-        (act_brought S.X.block32 N.name64 site.now.profile site.now.what t) folder.now es
-        → touches.new ≤ touches.old + (19 + crossings_of S.X.block32 N.name64 site.now.profile (name.now ∷ []) es
-        (acted site.now.profile site.now.what site.now.piece.now t (site.now.led + 1) name.now es)
-        + act_touches S.X.block32 N.name64 site.now.profile rows site.now.what site.now.piece.now (name.now ∷ []) es
-        (acted site.now.profile site.now.what site.now.piece.now t (site.now.led + 1) name.now es)) }
-    ensures missing { IsPut site.now.what
-        → FolderMisses S.X.block32 N.name64 site.now.profile (S.seen store.old) (S.seen store.new) folder.now
-        (own_needs S.X.block32 N.name64 site.now.profile) (stop_fault result) }
-    ensures touched { CountsUp (stop_fault result) touches.old touches.new }
+    ensures edits { ActsHere S.X.block32 N.name64 (S.seen store.old) (S.seen store.new) site.now folder.now name.now
+        found result }
+    ensures idle { LeavesMember S.X.block32 N.name64 (S.seen store.old) (S.seen store.new) found
+        (LeavesTree site.now.what site.now.piece.now) result }
+    ensures made { MakesRootCid S.X.block32 site.now.profile result }
+    ensures saves { SavesActing S.X.block32 N.name64 (S.seen store.old) (S.seen store.new) site.now folder.now result }
+    ensures touches { TouchesActing S.X.block32 N.name64 (S.seen store.old) (S.seen store.new) site.now folder.now
+        name.now found touches.old touches.new }
+    ensures missing { MissesHere S.X.block32 N.name64 (S.seen store.old) (S.seen store.new) site.now folder.now
+        result }
+    ensures touched { StepCounts result touches.old touches.new }
 {
     let led = site.led + 1;
     let p = &site.profile;
@@ -277,7 +231,7 @@ fn edit_here<S: Store, N: NameHash, L: Ledger>(
             put_in::<S, N, L>(alloc, store, p, folder, name, &new, touches)
         }
         Act::Remake(what) => {
-            let Some(new) = remade_member::<S, N, L>(alloc, store, site, what, found, touches)?
+            let Some(new) = change_member_meta::<S, N, L>(alloc, store, site, what, found, touches)?
             else {
                 return Ok(None);
             };
@@ -288,9 +242,7 @@ fn edit_here<S: Store, N: NameHash, L: Ledger>(
 
 // Whether an edit may be done, by what was found under its name.
 fn may(what: Act, led: usize, found: Option<Thing>) -> Result<(), Refused>
-    ensures { (X : List ℕ → List ℕ) (N : List ℕ → ℕ) (told : Told) (p : TheProfile) (o : TheOption Tree)
-        → IsAgreedMember X N told p o found
-        → Decides (λ a b. Unit {0}) (may_act what led o) result }
+    ensures { OfMember found (λ X N told p o. Decides (λ a b. Unit {0}) (may_act what led o) result) }
 {
     match (what, found) {
         (Act::Change(Change::Make), Some(_)) => Err(Refused::Exists(led)),
@@ -314,15 +266,13 @@ fn make_in<S: Store, N: NameHash, L: Ledger>(
     requires profile { IsTrue (is_profile profile.now) }
     ensures edits { ChangesFolder S.X.block32 N.name64 profile.now (S.seen store.old) (S.seen store.new) [] folder.now
         (λ es. Ok (with_child name.now (Dir (Nothing none)) es)) result }
-    ensures made { IfOk result (λ new. IfSome new (λ e. IsRootCid S.X.block32 (Some profile.now) e.cid)) }
-    ensures saves { OnlySaves S.X.block32 (IsBadInTree S.X.block32 N.name64 (Some profile.now) folder.now.cid)
-        (stop_fault result) (S.seen store.old) (S.seen store.new) }
+    ensures made { MakesRootCid S.X.block32 profile.now result }
+    ensures saves { SavesInTree S.X.block32 N.name64 profile.now folder.now.cid result (S.seen store.old)
+        (S.seen store.new) }
     ensures touches { TouchesFolder S.X.block32 N.name64 profile.now (S.seen store.old) (S.seen store.new) []
-        folder.now (λ es. 18 + crossing S.X.block32 N.name64 profile.now
-        (named_entries S.X.block32 N.name64 profile.now es)
-        (named_entries S.X.block32 N.name64 profile.now (with_child name.now (Dir (Nothing none)) es)))
-        touches.old touches.new }
-    ensures touched { CountsUp (stop_fault result) touches.old touches.new }
+        folder.now (putting_bound S.X.block32 N.name64 profile.now 18 name.now (Dir (Nothing none))) touches.old
+        touches.new }
+    ensures touched { StepCounts result touches.old touches.new }
 {
     let new = empty(alloc, store, touches)?;
     put_in::<S, N, L>(alloc, store, profile, folder, name, &new, touches)
@@ -339,20 +289,16 @@ fn put_in<S: Store, N: NameHash, L: Ledger>(
     touches: &mut Steps<L>,
 ) -> Result<Option<Entry>, Stop>
     requires profile { IsTrue (is_profile profile.now) }
-    ensures edits { (t : Tree) → IsPlanOf S.X.block32 N.name64 profile.now entry.now t
-        → ChangesFolder S.X.block32 N.name64 profile.now (S.seen store.old) (S.seen store.new)
-        (blocks S.X.block32 N.name64 profile.now t) folder.now (λ es. Ok (with_child name.now t es)) result }
-    ensures made { IfOk result (λ new. IfSome new (λ e. IsRootCid S.X.block32 (Some profile.now) e.cid)) }
-    ensures saves { OnlySaves S.X.block32 (IsBadInTree S.X.block32 N.name64 (Some profile.now) folder.now.cid)
-        (stop_fault result) (S.seen store.old) (S.seen store.new) }
-    ensures touches { (t : Tree) → IsPlanOf S.X.block32 N.name64 profile.now entry.now t
-        → TouchesFolder S.X.block32 N.name64 profile.now (S.seen store.old) (S.seen store.new)
-        (blocks S.X.block32 N.name64 profile.now t) folder.now
-        (λ es. 17 + crossing S.X.block32 N.name64 profile.now (named_entries S.X.block32 N.name64 profile.now es)
-        (named_entries S.X.block32 N.name64 profile.now (with_child name.now t es))) touches.old touches.new }
+    ensures edits { ChangesPut S.X.block32 N.name64 profile.now (S.seen store.old) (S.seen store.new) entry.now
+        folder.now (λ t es. Ok (with_child name.now t es)) result }
+    ensures made { MakesRootCid S.X.block32 profile.now result }
+    ensures saves { SavesInTree S.X.block32 N.name64 profile.now folder.now.cid result (S.seen store.old)
+        (S.seen store.new) }
+    ensures touches { TouchesPut S.X.block32 N.name64 profile.now (S.seen store.old) (S.seen store.new) entry.now
+        folder.now (putting_bound S.X.block32 N.name64 profile.now 17 name.now) touches.old touches.new }
     ensures missing { FolderMisses S.X.block32 N.name64 profile.now (S.seen store.old) (S.seen store.new) folder.now
         (own_needs S.X.block32 N.name64 profile.now) (stop_fault result) }
-    ensures touched { CountsUp (stop_fault result) touches.old touches.new }
+    ensures touched { StepCounts result touches.old touches.new }
 {
     names_are_good(name);
     let new = put::<S, N, L>(alloc, store, profile, &folder.cid, name, entry, touches)?;
@@ -370,19 +316,14 @@ fn take_out<S: Store, N: NameHash, L: Ledger>(
     touches: &mut Steps<L>,
 ) -> Result<Option<Entry>, Stop>
     requires profile { IsTrue (is_profile profile.now) }
-    ensures edits { (es : Entries) → child name.now es ≢ None
-        → IsFolderOver S.X.block32 N.name64 profile.now (S.seen store.old) (S.seen store.new) [] folder.now es
-        → ChangesOver S.X.block32 N.name64 profile.now (S.seen store.old) (S.seen store.new) [] es
-        (Ok (without_child name.now es)) result }
-    ensures made { IfOk result (λ new. IfSome new (λ e. IsRootCid S.X.block32 (Some profile.now) e.cid)) }
-    ensures saves { OnlySaves S.X.block32 (IsBadInTree S.X.block32 N.name64 (Some profile.now) folder.now.cid)
-        (stop_fault result) (S.seen store.old) (S.seen store.new) }
+    ensures edits { TakesMember S.X.block32 N.name64 profile.now (S.seen store.old) (S.seen store.new) folder.now
+        name.now result }
+    ensures made { MakesRootCid S.X.block32 profile.now result }
+    ensures saves { SavesInTree S.X.block32 N.name64 profile.now folder.now.cid result (S.seen store.old)
+        (S.seen store.new) }
     ensures touches { TouchesFolder S.X.block32 N.name64 profile.now (S.seen store.old) (S.seen store.new) []
-        folder.now (λ es. 18
-        + weighing_from S.X.block32 N.name64 profile.now name.now (named_entries S.X.block32 N.name64 profile.now es)
-        + crossing S.X.block32 N.name64 profile.now (named_entries S.X.block32 N.name64 profile.now es)
-        (named_entries S.X.block32 N.name64 profile.now (without_child name.now es))) touches.old touches.new }
-    ensures touched { CountsUp (stop_fault result) touches.old touches.new }
+        folder.now (taking_bound S.X.block32 N.name64 profile.now name.now) touches.old touches.new }
+    ensures touched { StepCounts result touches.old touches.new }
 {
     let taken = remove::<S, N, L>(alloc, store, profile, &folder.cid, name, touches)?;
     match taken {

@@ -1,20 +1,19 @@
 //! The names and the rows of what a path leads to.
-ghost use Rattle.std.specs.Prelude.{◌≡◌, ◌<◌, ◌≤◌, ◌+◌, IfOk, List, None, length, map, ℕ};
-ghost use Rattle.uf_edge.specs.Counts.{Stood};
+ghost use Rattle.std.specs.Prelude.{◌≡◌, ◌≤◌, ◌+◌, [], IfOk, List, length, map, ℕ};
 ghost use Rattle.uf_tree.specs.declared.profile.Profile.{Profile};
 ghost use Rattle.uf_tree.specs.Nodes.{Named};
 ghost use Rattle.uf_tree.specs.Tree.{Dir, Entries, Tree, pairs as pairs_in};
 ghost use Rattle.uf_mfs.specs.Answers.{Pushes};
 ghost use Rattle.uf_dir.specs.Bad.{IsBadRoot};
-ghost use Rattle.uf_mfs.specs.Bad.{IsBadInTree, IsBadUnder};
 ghost use Rattle.uf_store.specs.Calls.{OnlyReads};
 ghost use Rattle.uf_store.specs.Faults.{fault_in};
 ghost use Rattle.uf_plain.specs.Replies.{last_name, names_at, row_of as row_at, rows_at, size as size_at};
-ghost use Rattle.std.specs.List.{flat_map};
 ghost use Rattle.uf_plain.specs.Needs.{own_needs, root_of, rows_need};
-ghost use Rattle.uf_store.specs.Lost.{ReadsOver};
-ghost use Rattle.uf_mfs.specs.Standing.{AreMembers, IsAgreed, IsAgreedThing};
-ghost use Rattle.uf_mfs.specs.Touches.{CountsUp, members_in};
+ghost use Rattle.uf_mfs.specs.Standing.{IsAgreed, IsAgreedThing};
+ghost use Rattle.uf_mfs.specs.Touches.{members_in};
+ghost use Rattle.uf_mfs.specs.Over.{OverEntry, OverFolder, OverThing, TellsOfEntry};
+ghost use Rattle.uf_mfs.specs.Over.{TellsOfFolder, TellsOfPairs, TellsOfThing};
+ghost use Rattle.uf_mfs.specs.Showing.{ReadCounts, ReadsBelow, ReadsUnder};
 
 use crate::Thing;
 use crate::looking::thing_of;
@@ -35,14 +34,12 @@ pub(crate) fn names_of<S: Store, N: NameHash, L: Ledger>(
     thing: Thing,
     touches: &mut Steps<L>,
 ) -> Result<Names, StoreFault>
-    ensures names { (p : Profile) (t : Tree) → IsAgreedThing S.X.block32 N.name64 (S.seen store.old).told p t thing
-        → Stood (S.seen store.old).faults (S.seen store.new).faults
-        → ReadsOver (S.seen store.old).told (own_needs S.X.block32 N.name64 p t) (names_at path.now t) result }
-    ensures reads { OnlyReads S.X.block32 (IsBadUnder S.X.block32 N.name64 None thing)
-        (fault_in result) (S.seen store.old) (S.seen store.new) }
+    ensures names { TellsOfThing S.X.block32 N.name64 (S.seen store.old) (S.seen store.new) thing
+        (own_needs S.X.block32 N.name64) (λ p t. names_at path.now t) result }
+    ensures reads { ReadsUnder S.X.block32 N.name64 thing (fault_in result) (S.seen store.old) (S.seen store.new) }
     ensures touches { (p : Profile) (t : Tree) → IsAgreedThing S.X.block32 N.name64 (S.seen store.old).told p t thing
         → touches.new ≤ touches.old + (length (own_needs S.X.block32 N.name64 p t) + 1) }
-    ensures touched { CountsUp (fault_in result) touches.old touches.new }
+    ensures touched { ReadCounts result touches.old touches.new }
 {
     match thing {
         Thing::File(_, _) => Ok(own_name(alloc, path)?),
@@ -68,17 +65,14 @@ fn names_in<S: Store, N: NameHash, L: Ledger>(
     folder: &Entry,
     touches: &mut Steps<L>,
 ) -> Result<Names, StoreFault>
-    ensures names { (p : Profile) (es : Entries)
-        → IsAgreed S.X.block32 N.name64 (S.seen store.old).told p folder.now (Dir es)
-        → Stood (S.seen store.old).faults (S.seen store.new).faults
-        → ReadsOver (S.seen store.old).told (own_needs S.X.block32 N.name64 p (Dir es))
-        (map (λ (m : List ℕ × Tree). m.0) (pairs_in es)) result }
-    ensures reads { OnlyReads S.X.block32 (IsBadInTree S.X.block32 N.name64 None folder.now.cid)
-        (fault_in result) (S.seen store.old) (S.seen store.new) }
+    ensures names { TellsOfFolder S.X.block32 N.name64 (S.seen store.old) (S.seen store.new) folder.now
+        (own_needs S.X.block32 N.name64) (λ p t. names_at [] t) result }
+    ensures reads { ReadsBelow S.X.block32 N.name64 folder.now.cid (fault_in result) (S.seen store.old)
+        (S.seen store.new) }
     ensures touches { (p : Profile) (es : Entries)
         → IsAgreed S.X.block32 N.name64 (S.seen store.old).told p folder.now (Dir es)
         → touches.new ≤ touches.old + (length (own_needs S.X.block32 N.name64 p (Dir es)) + 1) }
-    ensures touched { CountsUp (fault_in result) touches.old touches.new }
+    ensures touched { ReadCounts result touches.old touches.new }
 {
     let pairs = entries(alloc, store, &folder.cid, touches)?;
     let names = names_in_pairs(alloc, pairs.as_slice())?;
@@ -104,16 +98,13 @@ pub(crate) fn rows_of<S: Store, N: NameHash, L: Ledger>(
     thing: Thing,
     touches: &mut Steps<L>,
 ) -> Result<Rows, StoreFault>
-    ensures rows { (p : Profile) (t : Tree) → IsAgreedThing S.X.block32 N.name64 (S.seen store.old).told p t thing
-        → Stood (S.seen store.old).faults (S.seen store.new).faults
-        → ReadsOver (S.seen store.old).told (rows_need S.X.block32 N.name64 p t)
-        (rows_at S.X.block32 N.name64 p path.now t) result }
-    ensures reads { OnlyReads S.X.block32 (IsBadUnder S.X.block32 N.name64 None thing)
-        (fault_in result) (S.seen store.old) (S.seen store.new) }
-    ensures touches { (p : Profile) (t : Tree) → IsAgreedThing S.X.block32 N.name64 (S.seen store.old).told p t thing
-        → Stood (S.seen store.old).faults (S.seen store.new).faults
-        → touches.new ≤ touches.old + (length (own_needs S.X.block32 N.name64 p t) + 1 + length (members_in t)) }
-    ensures touched { CountsUp (fault_in result) touches.old touches.new }
+    ensures rows { TellsOfThing S.X.block32 N.name64 (S.seen store.old) (S.seen store.new) thing
+        (rows_need S.X.block32 N.name64) (λ p t. rows_at S.X.block32 N.name64 p path.now t) result }
+    ensures reads { ReadsUnder S.X.block32 N.name64 thing (fault_in result) (S.seen store.old) (S.seen store.new) }
+    ensures touches { OverThing S.X.block32 N.name64 (S.seen store.old) (S.seen store.new) thing
+        (λ p t. touches.new ≤ touches.old + (length (own_needs S.X.block32 N.name64 p t) + 1 + length
+        (members_in t))) }
+    ensures touched { ReadCounts result touches.old touches.new }
 {
     match thing {
         Thing::File(entry, size) => Ok(own_row(alloc, path, entry.cid, size.length)?),
@@ -141,18 +132,14 @@ fn rows_in<S: Store, N: NameHash, L: Ledger>(
     folder: &Entry,
     touches: &mut Steps<L>,
 ) -> Result<Rows, StoreFault>
-    ensures rows { (p : Profile) (es : Entries)
-        → IsAgreed S.X.block32 N.name64 (S.seen store.old).told p folder.now (Dir es)
-        → Stood (S.seen store.old).faults (S.seen store.new).faults
-        → ReadsOver (S.seen store.old).told (rows_need S.X.block32 N.name64 p (Dir es))
-        (map (λ (m : List ℕ × Tree). row_at S.X.block32 N.name64 p m.0 m.1) (pairs_in es)) result }
-    ensures reads { OnlyReads S.X.block32 (IsBadInTree S.X.block32 N.name64 None folder.now.cid)
-        (fault_in result) (S.seen store.old) (S.seen store.new) }
-    ensures touches { (p : Profile) (es : Entries)
-        → IsAgreed S.X.block32 N.name64 (S.seen store.old).told p folder.now (Dir es)
-        → Stood (S.seen store.old).faults (S.seen store.new).faults
-        → touches.new ≤ touches.old + (length (own_needs S.X.block32 N.name64 p (Dir es)) + 1 + length (pairs_in es)) }
-    ensures touched { CountsUp (fault_in result) touches.old touches.new }
+    ensures rows { TellsOfFolder S.X.block32 N.name64 (S.seen store.old) (S.seen store.new) folder.now
+        (rows_need S.X.block32 N.name64) (λ p t. rows_at S.X.block32 N.name64 p [] t) result }
+    ensures reads { ReadsBelow S.X.block32 N.name64 folder.now.cid (fault_in result) (S.seen store.old)
+        (S.seen store.new) }
+    ensures touches { OverFolder S.X.block32 N.name64 (S.seen store.old) (S.seen store.new) folder.now
+        (λ p es. touches.new ≤ touches.old + (length (own_needs S.X.block32 N.name64 p (Dir es)) + 1 + length
+        (pairs_in es))) }
+    ensures touched { ReadCounts result touches.old touches.new }
 {
     let pairs = entries(alloc, store, &folder.cid, touches)?;
     rows_from::<S, N, L>(alloc, store, pairs.as_slice(), touches)
@@ -165,14 +152,11 @@ fn rows_from<S: Store, N: NameHash, L: Ledger>(
     pairs: &[Pair],
     touches: &mut Steps<L>,
 ) -> Result<Rows, StoreFault>
-    ensures rows { (p : Profile) (l : List (List ℕ × Tree))
-        → AreMembers S.X.block32 N.name64 (S.seen store.old).told p pairs.now l
-        → Stood (S.seen store.old).faults (S.seen store.new).faults
-        → ReadsOver (S.seen store.old).told (flat_map (λ (m : List ℕ × Tree). root_of S.X.block32 N.name64 p m.1) l)
-        (map (λ (m : List ℕ × Tree). row_at S.X.block32 N.name64 p m.0 m.1) l) result }
+    ensures rows { TellsOfPairs S.X.block32 N.name64 (S.seen store.old) (S.seen store.new) pairs.now
+        (root_of S.X.block32 N.name64) (row_at S.X.block32 N.name64) result }
     ensures reads { OnlyReads S.X.block32 IsBadRoot (fault_in result) (S.seen store.old) (S.seen store.new) }
     ensures touches { touches.new ≤ touches.old + length pairs.now }
-    ensures touched { CountsUp (fault_in result) touches.old touches.new }
+    ensures touched { ReadCounts result touches.old touches.new }
 {
     let mut rows = Rows::new(alloc);
     for pair in pairs {
@@ -189,13 +173,12 @@ fn push_row<S: Store, N: NameHash, L: Ledger>(
     pair: &Pair,
     touches: &mut Steps<L>,
 ) -> Result<(), StoreFault>
-    ensures pushed { (p : Profile) (t : Tree) → IsAgreed S.X.block32 N.name64 (S.seen store.old).told p pair.now.1 t
-        → Stood (S.seen store.old).faults (S.seen store.new).faults
-        → Pushes (S.seen store.old).told (root_of S.X.block32 N.name64 p t) rows.old rows.new
-        (row_at S.X.block32 N.name64 p pair.now.0 t) result }
+    ensures pushed { OverEntry S.X.block32 N.name64 (S.seen store.old) (S.seen store.new) pair.now.1
+        (λ p t. Pushes (S.seen store.old).told (root_of S.X.block32 N.name64 p t) rows.old rows.new
+        (row_at S.X.block32 N.name64 p pair.now.0 t) result) }
     ensures reads { OnlyReads S.X.block32 IsBadRoot (fault_in result) (S.seen store.old) (S.seen store.new) }
     ensures touches { touches.new ≤ touches.old + 1 }
-    ensures touched { CountsUp (fault_in result) touches.old touches.new }
+    ensures touched { ReadCounts result touches.old touches.new }
 {
     let row = row_of::<S, N, L>(alloc, store, pair, touches)?;
     match rows.push(row) {
@@ -211,13 +194,11 @@ fn row_of<S: Store, N: NameHash, L: Ledger>(
     pair: &Pair,
     touches: &mut Steps<L>,
 ) -> Result<Row, StoreFault>
-    ensures row { (p : Profile) (t : Tree) → IsAgreed S.X.block32 N.name64 (S.seen store.old).told p pair.now.1 t
-        → Stood (S.seen store.old).faults (S.seen store.new).faults
-        → ReadsOver (S.seen store.old).told (root_of S.X.block32 N.name64 p t)
-        (row_at S.X.block32 N.name64 p pair.now.0 t) result }
+    ensures row { TellsOfEntry S.X.block32 N.name64 (S.seen store.old) (S.seen store.new) pair.now.1
+        (λ p t. row_at S.X.block32 N.name64 p pair.now.0 t) result }
     ensures reads { OnlyReads S.X.block32 IsBadRoot (fault_in result) (S.seen store.old) (S.seen store.new) }
     ensures touches { touches.new ≤ touches.old + 1 }
-    ensures touched { CountsUp (fault_in result) touches.old touches.new }
+    ensures touched { ReadCounts result touches.old touches.new }
 {
     let size = entry_size::<S, N, L>(alloc, store, &pair.entry, touches)?;
     let name = pair.name.copy()?;
@@ -232,12 +213,11 @@ fn entry_size<S: Store, N: NameHash, L: Ledger>(
     entry: &Entry,
     touches: &mut Steps<L>,
 ) -> Result<u64, StoreFault>
-    ensures sizes { (p : Profile) (t : Tree) → IsAgreed S.X.block32 N.name64 (S.seen store.old).told p entry.now t
-        → Stood (S.seen store.old).faults (S.seen store.new).faults
-        → ReadsOver (S.seen store.old).told (root_of S.X.block32 N.name64 p t) (size_at t) result }
+    ensures sizes { TellsOfEntry S.X.block32 N.name64 (S.seen store.old) (S.seen store.new) entry.now
+        (λ p t. size_at t) result }
     ensures reads { OnlyReads S.X.block32 IsBadRoot (fault_in result) (S.seen store.old) (S.seen store.new) }
     ensures touches { touches.new ≤ touches.old + 1 }
-    ensures touched { CountsUp (fault_in result) touches.old touches.new }
+    ensures touched { ReadCounts result touches.old touches.new }
 {
     match thing_of::<S, N, L>(alloc, store, entry, touches)? {
         Thing::File(_, size) => Ok(size.length),

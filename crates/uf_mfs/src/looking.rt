@@ -1,20 +1,15 @@
 //! What is at a path, looked up from its root.
-ghost use Rattle.std.specs.Prelude.{◌≡◌, ◌+◌, ◌*◌, ◌<◌, ◌≤◌, ◌^◌, IfOk, IfSome, None, Ok, length};
+ghost use Rattle.std.specs.Prelude.{◌≡◌, ◌+◌, ◌*◌, ◌<◌, ◌≤◌, ◌^◌, IfOk, IfSome, length};
 ghost use Rattle.uf_cid.specs.declared.cid.Cid.{Cid as TheCid};
-ghost use Rattle.uf_edge.specs.Counts.{Stood};
-ghost use Rattle.uf_tree.specs.declared.profile.Profile.{Profile};
-ghost use Rattle.uf_tree.specs.Tree.{Dir, Entries, Tree};
-ghost use Rattle.uf_mfs.specs.Answers.{MeetsOr};
 ghost use Rattle.uf_dir.specs.Bad.{IsBadRoot};
-ghost use Rattle.uf_mfs.specs.Bad.{IsBadInTree, IsBadUnder, IsRequired};
+ghost use Rattle.uf_mfs.specs.Bad.{IsRequired};
 ghost use Rattle.uf_store.specs.Calls.{OnlyReads};
 ghost use Rattle.uf_store.specs.Faults.{fault_in};
-ghost use Rattle.uf_plain.specs.Edits.{at, child};
-ghost use Rattle.uf_mfs.specs.Standing.{IsAgreed, IsAgreedMember, IsAgreedThing, ReadsThing};
-ghost use Rattle.uf_plain.specs.Needs.{member_needs, way};
-ghost use Rattle.uf_store.specs.Lost.{IsLossOf};
+ghost use Rattle.uf_mfs.specs.Standing.{ReadsThing};
 ghost use Rattle.uf_mfs.specs.Steps.{stop_fault};
-ghost use Rattle.uf_mfs.specs.Touches.{CountsUp, unseen, unseen_after};
+ghost use Rattle.uf_mfs.specs.Touches.{unseen, unseen_after};
+ghost use Rattle.uf_mfs.specs.Over.{FindsMember, LooksFrom, OverEntry};
+ghost use Rattle.uf_mfs.specs.Showing.{ReadCounts, ReadsBelow, ReadsUnder, StepCounts};
 
 use crate::{FolderRoot, Stop, Thing};
 use std::alloc::Global;
@@ -36,15 +31,12 @@ pub(crate) fn look<S: Store, N: NameHash, L: Ledger>(
     touches: &mut Steps<L>,
 ) -> Result<Thing, Stop>
     requires { led + length names.now < 2 ^ 64 }
-    ensures looks { (p : Profile) (t : Tree) → IsAgreedThing S.X.block32 N.name64 (S.seen store.old).told p t thing
-        → Stood (S.seen store.old).faults (S.seen store.new).faults
-        → MeetsOr (IsLossOf (S.seen store.old).told (way S.X.block32 N.name64 p names.now t))
-        (λ t thing. IsAgreedThing S.X.block32 N.name64 (S.seen store.old).told p t thing) (at led names.now t) result }
-    ensures reads { OnlyReads S.X.block32 (IsBadUnder S.X.block32 N.name64 None thing)
-        (stop_fault result) (S.seen store.old) (S.seen store.new) }
-    ensures required { (root : TheCid) → IsRequired S.X.block32 root thing → IfOk result (IsRequired S.X.block32 root) }
+    ensures looks { LooksFrom S.X.block32 N.name64 (S.seen store.old) (S.seen store.new) thing led names.now result }
+    ensures reads { ReadsUnder S.X.block32 N.name64 thing (stop_fault result) (S.seen store.old) (S.seen store.new) }
+    ensures required { (root : TheCid) → IsRequired S.X.block32 root thing
+        → IfOk result (IsRequired S.X.block32 root) }
     ensures touches { touches.new ≤ touches.old + 11 * length names.now }
-    ensures touched { CountsUp (stop_fault result) touches.old touches.new }
+    ensures touched { StepCounts result touches.old touches.new }
     ensures seen { IfOk result (λ found. unseen found ≡ unseen_after names.now thing) }
 {
     let [name, rest @ ..] = names else {
@@ -67,17 +59,13 @@ pub(crate) fn member<S: Store, N: NameHash, L: Ledger>(
     name: &Name,
     touches: &mut Steps<L>,
 ) -> Result<Option<Thing>, Stop>
-    ensures member { (p : Profile) (es : Entries)
-        → IsAgreed S.X.block32 N.name64 (S.seen store.old).told p folder.now (Dir es)
-        → Stood (S.seen store.old).faults (S.seen store.new).faults
-        → MeetsOr (IsLossOf (S.seen store.old).told (member_needs S.X.block32 N.name64 p name.now es))
-        (λ t thing. IsAgreedMember S.X.block32 N.name64 (S.seen store.old).told p t thing) (Ok (child name.now es))
+    ensures member { FindsMember S.X.block32 N.name64 (S.seen store.old) (S.seen store.new) folder.now name.now
         result }
-    ensures reads { OnlyReads S.X.block32 (IsBadInTree S.X.block32 N.name64 None folder.now.cid)
-        (stop_fault result) (S.seen store.old) (S.seen store.new) }
+    ensures reads { ReadsBelow S.X.block32 N.name64 folder.now.cid (stop_fault result) (S.seen store.old)
+        (S.seen store.new) }
     ensures required { IfOk result (λ found. IfSome found (IsRequired S.X.block32 folder.now.cid)) }
     ensures touches { touches.new ≤ touches.old + 11 }
-    ensures touched { CountsUp (stop_fault result) touches.old touches.new }
+    ensures touched { StepCounts result touches.old touches.new }
     ensures seen { IfOk result (λ found. IfSome found (λ thing. unseen thing ≡ 0)) }
 {
     let Some(entry) = find::<S, N, L>(alloc, store, &folder.cid, name, touches)? else {
@@ -94,13 +82,12 @@ pub(crate) fn thing_of<S: Store, N: NameHash, L: Ledger>(
     entry: &Entry,
     touches: &mut Steps<L>,
 ) -> Result<Thing, StoreFault>
-    ensures thing { (p : Profile) (t : Tree) → IsAgreed S.X.block32 N.name64 (S.seen store.old).told p entry.now t
-        → Stood (S.seen store.old).faults (S.seen store.new).faults
-        → ReadsThing S.X.block32 N.name64 (S.seen store.old).told p t result }
+    ensures thing { OverEntry S.X.block32 N.name64 (S.seen store.old) (S.seen store.new) entry.now
+        (λ p t. ReadsThing S.X.block32 N.name64 (S.seen store.old).told p t result) }
     ensures reads { OnlyReads S.X.block32 IsBadRoot (fault_in result) (S.seen store.old) (S.seen store.new) }
     ensures required { (root : TheCid) → IfOk result (IsRequired S.X.block32 root) }
     ensures touches { touches.new ≤ touches.old + 1 }
-    ensures touched { CountsUp (fault_in result) touches.old touches.new }
+    ensures touched { ReadCounts result touches.old touches.new }
     ensures seen { IfOk result (λ thing. unseen thing ≡ 0) }
 {
     match kind_of(alloc, store, entry, touches)? {

@@ -1,16 +1,13 @@
 //! What is said of a file or a folder.
-ghost use Rattle.std.specs.Prelude.{◌≡◌, ◌≤◌, ◌+◌, None, false, true};
-ghost use Rattle.uf_edge.specs.Counts.{Stood};
+ghost use Rattle.std.specs.Prelude.{◌≡◌, ◌≤◌, ◌+◌, false, true};
 ghost use Rattle.uf_store.specs.Calls.{OnlyReads};
 ghost use Rattle.uf_store.specs.Faults.{fault_in};
-ghost use Rattle.uf_tree.specs.declared.profile.Profile.{Profile};
-ghost use Rattle.uf_tree.specs.Tree.{Tree};
 ghost use Rattle.uf_plain.specs.Replies.{stat_of as stat_at};
 ghost use Rattle.uf_dir.specs.Bad.{IsBadRoot};
 ghost use Rattle.uf_plain.specs.Needs.{root_of};
-ghost use Rattle.uf_store.specs.Lost.{ReadsOver};
-ghost use Rattle.uf_mfs.specs.Standing.{IsAgreed, IsAgreedThing};
-ghost use Rattle.uf_mfs.specs.Touches.{CountsUp, unseen};
+ghost use Rattle.uf_mfs.specs.Touches.{unseen};
+ghost use Rattle.uf_mfs.specs.Over.{TellsOfEntry, TellsOfThing};
+ghost use Rattle.uf_mfs.specs.Showing.{ReadCounts};
 
 use crate::{FolderRoot, Thing};
 use std::alloc::Global;
@@ -29,13 +26,11 @@ pub(crate) fn stat_of<S: Store, N: NameHash, L: Ledger>(
     thing: Thing,
     touches: &mut Steps<L>,
 ) -> Result<Stat, StoreFault>
-    ensures stat { (p : Profile) (t : Tree) → IsAgreedThing S.X.block32 N.name64 (S.seen store.old).told p t thing
-        → Stood (S.seen store.old).faults (S.seen store.new).faults
-        → ReadsOver (S.seen store.old).told (root_of S.X.block32 N.name64 p t) (stat_at S.X.block32 N.name64 p t)
-        result }
+    ensures stat { TellsOfThing S.X.block32 N.name64 (S.seen store.old) (S.seen store.new) thing
+        (root_of S.X.block32 N.name64) (stat_at S.X.block32 N.name64) result }
     ensures reads { OnlyReads S.X.block32 IsBadRoot (fault_in result) (S.seen store.old) (S.seen store.new) }
     ensures touches { touches.new ≤ touches.old + unseen thing }
-    ensures touched { CountsUp (fault_in result) touches.old touches.new }
+    ensures touched { ReadCounts result touches.old touches.new }
 {
     match thing {
         Thing::File(entry, size) => Ok(file_stat(&entry, size)),
@@ -51,13 +46,11 @@ fn stat_at_root<S: Store, N: NameHash, L: Ledger>(
     entry: &Entry,
     touches: &mut Steps<L>,
 ) -> Result<Stat, StoreFault>
-    ensures stat { (p : Profile) (t : Tree) → IsAgreed S.X.block32 N.name64 (S.seen store.old).told p entry.now t
-        → Stood (S.seen store.old).faults (S.seen store.new).faults
-        → ReadsOver (S.seen store.old).told (root_of S.X.block32 N.name64 p t) (stat_at S.X.block32 N.name64 p t)
-        result }
+    ensures stat { TellsOfEntry S.X.block32 N.name64 (S.seen store.old) (S.seen store.new) entry.now
+        (stat_at S.X.block32 N.name64) result }
     ensures reads { OnlyReads S.X.block32 IsBadRoot (fault_in result) (S.seen store.old) (S.seen store.new) }
     ensures touches { touches.new ≤ touches.old + 1 }
-    ensures touched { CountsUp (fault_in result) touches.old touches.new }
+    ensures touched { ReadCounts result touches.old touches.new }
 {
     match kind_of(alloc, store, entry, touches)? {
         EntryKind::File(size) => Ok(file_stat(entry, size)),

@@ -1,29 +1,21 @@
 //! Copies and moves in the tree.
-ghost use Rattle.std.specs.Prelude.{◌≡◌, ◌+◌, ◌*◌, [], ℕ, List, IfOk, IsTrue, OnErr, Ok, Some, length, true};
-ghost use Rattle.uf_edge.specs.Counts.{Stood};
-ghost use Rattle.uf_store.specs.Calls.{OnlySaves};
+ghost use Rattle.std.specs.Prelude.{◌≡◌, ◌+◌, ◌*◌, IfOk, length};
 ghost use Rattle.uf_store.specs.Keeping.{KeepsGood};
 ghost use Rattle.uf_store.specs.Writing.{SavesOnly};
-ghost use Rattle.uf_tree.specs.declared.profile.Profile.{Profile as TheProfile};
-ghost use Rattle.uf_tree.specs.Profiles.{is_profile};
-ghost use Rattle.uf_tree.specs.Tree.{Dir, Entries, Tree};
-ghost use Rattle.uf_tree.specs.TreePlan.{blocks};
-ghost use Rattle.uf_plain.specs.declared.rule.Refused.{Refused as TheRefused};
-ghost use Rattle.uf_plain.specs.declared.spot.Spot.{Spot as TheSpot};
-ghost use Rattle.uf_plain.specs.Edits.{at, removed};
-ghost use Rattle.uf_plain.specs.Moves.{allowed_move, as_replaceable, carried, copied, edited_at, lie_of as lie_at};
-ghost use Rattle.uf_plain.specs.Moves.{moved_to as moved_by, put_at_spot, put_over, shifted, spot_names, told_of};
-ghost use Rattle.uf_plain.specs.Rules.{allowed};
-ghost use Rattle.uf_mfs.specs.Answers.{Moves, ShownInTree};
-ghost use Rattle.uf_mfs.specs.Bad.{IsBadInTree, RequiresDirectory};
-ghost use Rattle.uf_mfs.specs.Missing.{FolderMisses, put_needs};
-ghost use Rattle.uf_mfs.specs.Moving.{EditsTree, IsFound, IsInside, IsOntoItself, MovesBy, MovesHeld};
-ghost use Rattle.uf_mfs.specs.Moving.{MovesRoot, MovesThing, TouchesThing, copy_bound, entry_in, found_crossings};
-ghost use Rattle.uf_mfs.specs.Moving.{move_bound, put_crossings, replaces, shift_crossings};
+ghost use Rattle.uf_plain.specs.Moves.{carried, copied, edited_at, lie_of as lie_at};
+ghost use Rattle.uf_plain.specs.Moves.{put_over, spot_names};
+ghost use Rattle.uf_mfs.specs.Moving.{CarriesHeld, CarriesOver, CarriesRoot, IsInside, IsOntoItself, MovesFound};
+ghost use Rattle.uf_mfs.specs.Moving.{MovesToSpot, TouchesCopy, TouchesFound, TouchesMove, TouchesToSpot};
+ghost use Rattle.uf_mfs.specs.Moving.{entry_in};
+ghost use Rattle.uf_mfs.specs.Moving.{put_crossings, replaces};
 ghost use Rattle.uf_plain.specs.declared.spot.Lie.TheVariants.{Itself};
-ghost use Rattle.uf_mfs.specs.Standing.{IsEntry, IsMfs, IsPlanOf, StandsAt, StandsOver};
-ghost use Rattle.uf_mfs.specs.Steps.{EditsFolder, GivesFolder, MovesTree, stop_fault, tree_fault};
-ghost use Rattle.uf_mfs.specs.Touches.{CountsUp, TouchesFolder, crossings_of, weighing_at};
+ghost use Rattle.uf_mfs.specs.Standing.{IsMfs};
+ghost use Rattle.uf_mfs.specs.Steps.{EditsPut, PlacesAgreed, PlacesWhole, stop_fault, tree_fault};
+ghost use Rattle.uf_mfs.specs.Missing.{PutMisses};
+ghost use Rattle.uf_mfs.specs.Over.{StaysOver};
+ghost use Rattle.uf_mfs.specs.Showing.{CallCounts, KeepsMfs, SavesInTree};
+ghost use Rattle.uf_mfs.specs.Showing.{SavesMoving, ShowsEdit, StepCounts};
+ghost use Rattle.uf_mfs.specs.Touches.{TouchesPut, edit_bound};
 
 use crate::editing::Act;
 use crate::looking::look;
@@ -50,38 +42,25 @@ impl Mfs {
         touches: &mut Steps<L>,
     ) -> Result<(), MfsFault>
         requires mfs { IsMfs self.old }
-        ensures answer { (t : Tree) (p : TheProfile) (es : Entries)
-            → IsEntry S.X.block32 N.name64 (S.seen store.old).told p entry.now t
-            → StandsAt S.X.block32 N.name64 (S.seen store.old).told self.old p es
-            → Stood (S.seen store.old).faults (S.seen store.new).faults
-            → Stood (S.seen store.old).clashes (S.seen store.new).clashes
-            → Moves S.X.block32 N.name64 (S.seen store.new).told p (spot_names spot.now) self.new
-            (put_at_spot spot.now t es) result }
-        ensures lost { (t : Tree) → IsPlanOf S.X.block32 N.name64 self.old.profile entry.now t
-            → MovesTree S.X.block32 N.name64 (S.seen store.old) (S.seen store.new)
-            (blocks S.X.block32 N.name64 self.old.profile t) self.old self.new (spot_names spot.now)
-            (λ p es. allowed S.X.block32 N.name64 p (put_at_spot spot.now t es)) result }
-        ensures missing { FolderMisses S.X.block32 N.name64 self.old.profile (S.seen store.old) (S.seen store.new)
-            self.old.root (put_needs S.X.block32 N.name64 self.old.profile (spot_names spot.now)) (tree_fault result) }
-        ensures refused { OnErr result (self.new ≡ self.old) }
-        ensures mfs { IsMfs self.new }
-        ensures profile { self.new.profile ≡ self.old.profile }
-        ensures cause { ShownInTree S.X.block32
-            (IsBadInTree S.X.block32 N.name64 (Some self.old.profile) self.old.root.cid) result
-            (S.seen store.old) (S.seen store.new) }
+        ensures answer { PlacesWhole S.X.block32 N.name64 (S.seen store.old) (S.seen store.new) self.old self.new
+            entry.now spot.now result }
+        ensures lost { PlacesAgreed S.X.block32 N.name64 (S.seen store.old) (S.seen store.new) self.old self.new
+            entry.now spot.now result }
+        ensures missing { PutMisses S.X.block32 N.name64 self.old.profile (S.seen store.old) (S.seen store.new)
+            self.old.root (spot_names spot.now) (tree_fault result) }
+        ensures stays { KeepsMfs self.old self.new result }
+        ensures cause { ShowsEdit S.X.block32 N.name64 self.old result (S.seen store.old) (S.seen store.new) }
         ensures good { KeepsGood S.X.block32 (S.seen store.old).told (S.seen store.new).told }
         ensures saves { SavesOnly S.X.block32 (S.seen store.old).told (S.seen store.new).told }
-        ensures touches { (t : Tree) → IsPlanOf S.X.block32 N.name64 self.old.profile entry.now t
-            → TouchesFolder S.X.block32 N.name64 self.old.profile (S.seen store.old) (S.seen store.new)
-            (blocks S.X.block32 N.name64 self.old.profile t) self.old.root
-            (λ es. 40 * length (spot_names spot.now)
-            + put_crossings S.X.block32 N.name64 self.old.profile spot.now t es) touches.old touches.new }
-        ensures touched { CountsUp (tree_fault result) touches.old touches.new }
+        ensures touches { TouchesPut S.X.block32 N.name64 self.old.profile (S.seen store.old) (S.seen store.new)
+            entry.now self.old.root (λ t es. 40 * length (spot_names spot.now) + put_crossings S.X.block32 N.name64
+            self.old.profile spot.now t es) touches.old touches.new }
+        ensures touched { CallCounts result touches.old touches.new }
     {
         let list = joined_names(alloc, spot.folder.as_slice(), &spot.name)?;
         let names = list.as_slice();
         let edited = put_root::<S, N, L>(alloc, store, self, names, entry, touches);
-        self.settled(alloc, names, edited)
+        self.take_over(alloc, names, edited)
     }
 
     /// Copies what is at `source` to where `dest` says: its entry alone is put there, no block below it is copied.
@@ -94,22 +73,17 @@ impl Mfs {
         touches: &mut Steps<L>,
     ) -> Result<(), MfsFault>
         requires mfs { IsMfs self.old }
-        ensures answer { MovesHeld S.X.block32 N.name64 (S.seen store.old) (S.seen store.new) self.old self.new
-            (λ p es. allowed_move S.X.block32 N.name64 p (copied source.now.names dest.now es)) result }
-        ensures lost { MovesBy S.X.block32 N.name64 (S.seen store.old) (S.seen store.new) self.old self.new
-            (λ p es. allowed_move S.X.block32 N.name64 p (copied source.now.names dest.now es)) result }
-        ensures refused { OnErr result (self.new ≡ self.old) }
-        ensures mfs { IsMfs self.new }
-        ensures profile { self.new.profile ≡ self.old.profile }
-        ensures cause { ShownInTree S.X.block32
-            (IsBadInTree S.X.block32 N.name64 (Some self.old.profile) self.old.root.cid) result
-            (S.seen store.old) (S.seen store.new) }
+        ensures answer { CarriesHeld S.X.block32 N.name64 (S.seen store.old) (S.seen store.new) self.old self.new
+            (copied source.now.names dest.now) result }
+        ensures lost { CarriesOver S.X.block32 N.name64 (S.seen store.old) (S.seen store.new) self.old self.new
+            (copied source.now.names dest.now) result }
+        ensures stays { KeepsMfs self.old self.new result }
+        ensures cause { ShowsEdit S.X.block32 N.name64 self.old result (S.seen store.old) (S.seen store.new) }
         ensures good { KeepsGood S.X.block32 (S.seen store.old).told (S.seen store.new).told }
         ensures saves { SavesOnly S.X.block32 (S.seen store.old).told (S.seen store.new).told }
-        ensures touches { TouchesFolder S.X.block32 N.name64 self.old.profile (S.seen store.old) (S.seen store.new) []
-            self.old.root (copy_bound S.X.block32 N.name64 self.old.profile source.now.names dest.now)
-            touches.old touches.new }
-        ensures touched { CountsUp (tree_fault result) touches.old touches.new }
+        ensures touches { TouchesCopy S.X.block32 N.name64 (S.seen store.old) (S.seen store.new) self.old
+            source.now.names dest.now touches.old touches.new }
+        ensures touched { CallCounts result touches.old touches.new }
     {
         let names = source.names.as_slice();
         let root = Thing::Folder(self.root, None);
@@ -122,8 +96,8 @@ impl Mfs {
         }
     }
 
-    /// Moves what is at `source` to where `dest` says; a directory that is there is entered, and a file takes the place
-    /// of a file. A move onto itself changes nothing.
+    /// Moves what is at `source` to where `dest` says; a directory that is there is entered, and a file takes the
+    /// place of a file. A move onto itself changes nothing.
     pub fn mv<S: Store, N: NameHash, L: Ledger>(
         &mut self,
         alloc: Global,
@@ -133,27 +107,19 @@ impl Mfs {
         touches: &mut Steps<L>,
     ) -> Result<(), MfsFault>
         requires mfs { IsMfs self.old }
-        ensures answer { MovesHeld S.X.block32 N.name64 (S.seen store.old) (S.seen store.new) self.old self.new
-            (λ p es. allowed_move S.X.block32 N.name64 p (carried source.now.names dest.now es)) result }
-        ensures lost { MovesBy S.X.block32 N.name64 (S.seen store.old) (S.seen store.new) self.old self.new
-            (λ p es. allowed_move S.X.block32 N.name64 p (carried source.now.names dest.now es)) result }
-        ensures itself { (p : TheProfile) (es : Entries)
-            → StandsOver S.X.block32 N.name64 (S.seen store.old).told self.old p es
-            → Stood (S.seen store.old).faults (S.seen store.new).faults
-            → IsOntoItself source.now.names dest.now es
-            → ((S.seen store.new).told ≡ (S.seen store.old).told) × (self.new ≡ self.old) }
-        ensures refused { OnErr result (self.new ≡ self.old) }
-        ensures mfs { IsMfs self.new }
-        ensures profile { self.new.profile ≡ self.old.profile }
-        ensures cause { ShownInTree S.X.block32
-            (IsBadInTree S.X.block32 N.name64 (Some self.old.profile) self.old.root.cid) result
-            (S.seen store.old) (S.seen store.new) }
+        ensures answer { CarriesHeld S.X.block32 N.name64 (S.seen store.old) (S.seen store.new) self.old self.new
+            (carried source.now.names dest.now) result }
+        ensures lost { CarriesOver S.X.block32 N.name64 (S.seen store.old) (S.seen store.new) self.old self.new
+            (carried source.now.names dest.now) result }
+        ensures itself { StaysOver S.X.block32 N.name64 (S.seen store.old) (S.seen store.new) self.old
+            (IsOntoItself source.now.names dest.now) (self.new ≡ self.old) }
+        ensures stays { KeepsMfs self.old self.new result }
+        ensures cause { ShowsEdit S.X.block32 N.name64 self.old result (S.seen store.old) (S.seen store.new) }
         ensures good { KeepsGood S.X.block32 (S.seen store.old).told (S.seen store.new).told }
         ensures saves { SavesOnly S.X.block32 (S.seen store.old).told (S.seen store.new).told }
-        ensures touches { TouchesFolder S.X.block32 N.name64 self.old.profile (S.seen store.old) (S.seen store.new) []
-            self.old.root (move_bound S.X.block32 N.name64 self.old.profile source.now.names dest.now)
-            touches.old touches.new }
-        ensures touched { CountsUp (tree_fault result) touches.old touches.new }
+        ensures touches { TouchesMove S.X.block32 N.name64 (S.seen store.old) (S.seen store.new) self.old
+            source.now.names dest.now touches.old touches.new }
+        ensures touched { CallCounts result touches.old touches.new }
     {
         let names = source.names.as_slice();
         let moved = moved_root::<S, N, L>(alloc, store, self, names, dest, touches)?;
@@ -172,18 +138,14 @@ fn moved_root<S: Store, N: NameHash, L: Ledger>(
     touches: &mut Steps<L>,
 ) -> Result<Entry, MfsFault>
     requires mfs { IsMfs tree.now }
-    ensures moves { MovesRoot S.X.block32 N.name64 (S.seen store.old) (S.seen store.new) tree.now
-        (λ p es. allowed_move S.X.block32 N.name64 p (carried source.now dest.now es)) result }
-    ensures itself { (p : TheProfile) (es : Entries)
-        → StandsOver S.X.block32 N.name64 (S.seen store.old).told tree.now p es
-        → Stood (S.seen store.old).faults (S.seen store.new).faults → IsOntoItself source.now dest.now es
-        → ((S.seen store.new).told ≡ (S.seen store.old).told) × IfOk result (λ e. e ≡ tree.now.root) }
-    ensures saves { EditsTree S.X.block32
-        (IsBadInTree S.X.block32 N.name64 (Some tree.now.profile) tree.now.root.cid) result
-        (S.seen store.old) (S.seen store.new) }
-    ensures touches { TouchesFolder S.X.block32 N.name64 tree.now.profile (S.seen store.old) (S.seen store.new) []
-        tree.now.root (move_bound S.X.block32 N.name64 tree.now.profile source.now dest.now) touches.old touches.new }
-    ensures touched { CountsUp (tree_fault result) touches.old touches.new }
+    ensures moves { CarriesRoot S.X.block32 N.name64 (S.seen store.old) (S.seen store.new) tree.now
+        (carried source.now dest.now) result }
+    ensures itself { StaysOver S.X.block32 N.name64 (S.seen store.old) (S.seen store.new) tree.now
+        (IsOntoItself source.now dest.now) (IfOk result (λ e. e ≡ tree.now.root)) }
+    ensures saves { SavesMoving S.X.block32 N.name64 tree.now result (S.seen store.old) (S.seen store.new) }
+    ensures touches { TouchesMove S.X.block32 N.name64 (S.seen store.old) (S.seen store.new) tree.now source.now
+        dest.now touches.old touches.new }
+    ensures touched { CallCounts result touches.old touches.new }
 {
     let [.., name] = source else {
         return Err(MfsFault::Rule(Rule::RootRefused));
@@ -209,21 +171,14 @@ fn moved_to<S: Store, N: NameHash, L: Ledger>(
     touches: &mut Steps<L>,
 ) -> Result<Entry, MfsFault>
     requires mfs { IsMfs tree.now }
-    ensures moves { (t : Tree) (found : TheSpot × Entries)
-        → IsFound S.X.block32 N.name64 (S.seen store.old).told tree.now.profile found target.now
-        → MovesThing S.X.block32 N.name64 (S.seen store.old) (S.seen store.new) tree.now source.now t thing
-        (moved_by source.now t found) result }
+    ensures moves { MovesFound S.X.block32 N.name64 (S.seen store.old) (S.seen store.new) tree.now source.now thing
+        target.now result }
     ensures itself { lie_at source.now target.now.names ≡ Itself
         → ((S.seen store.new).told ≡ (S.seen store.old).told) × IfOk result (λ e. e ≡ tree.now.root) }
-    ensures saves { EditsTree S.X.block32
-        (IsBadInTree S.X.block32 N.name64 (Some tree.now.profile) tree.now.root.cid) result
-        (S.seen store.old) (S.seen store.new) }
-    ensures touches { (t : Tree) (found : TheSpot × Entries)
-        → IsFound S.X.block32 N.name64 (S.seen store.old).told tree.now.profile found target.now
-        → TouchesThing S.X.block32 N.name64 (S.seen store.old) (S.seen store.new) tree.now source.now t thing
-        (λ es. 40 * (length source.now + length target.now.names)
-        + found_crossings S.X.block32 N.name64 tree.now.profile source.now found t es) touches.old touches.new }
-    ensures touched { CountsUp (tree_fault result) touches.old touches.new }
+    ensures saves { SavesMoving S.X.block32 N.name64 tree.now result (S.seen store.old) (S.seen store.new) }
+    ensures touches { TouchesFound S.X.block32 N.name64 (S.seen store.old) (S.seen store.new) tree.now source.now thing
+        target.now touches.old touches.new }
+    ensures touched { CallCounts result touches.old touches.new }
 {
     let names = target.names.as_slice();
     match lie_of(source, names) {
@@ -250,17 +205,12 @@ fn shifted_root<S: Store, N: NameHash, L: Ledger>(
     touches: &mut Steps<L>,
 ) -> Result<Entry, MfsFault>
     requires mfs { IsMfs tree.now }
-    ensures moves { (t : Tree) (spot : TheSpot) → names.now ≡ spot_names spot
-        → MovesThing S.X.block32 N.name64 (S.seen store.old) (S.seen store.new) tree.now source.now t thing
-        (shifted source.now spot t) result }
-    ensures saves { EditsTree S.X.block32
-        (IsBadInTree S.X.block32 N.name64 (Some tree.now.profile) tree.now.root.cid) result
-        (S.seen store.old) (S.seen store.new) }
-    ensures touches { (t : Tree) (spot : TheSpot) → names.now ≡ spot_names spot
-        → TouchesThing S.X.block32 N.name64 (S.seen store.old) (S.seen store.new) tree.now source.now t thing
-        (λ es. 40 * (length source.now + length names.now)
-        + shift_crossings S.X.block32 N.name64 tree.now.profile source.now spot t es) touches.old touches.new }
-    ensures touched { CountsUp (tree_fault result) touches.old touches.new }
+    ensures moves { MovesToSpot S.X.block32 N.name64 (S.seen store.old) (S.seen store.new) tree.now source.now thing
+        names.now result }
+    ensures saves { SavesMoving S.X.block32 N.name64 tree.now result (S.seen store.old) (S.seen store.new) }
+    ensures touches { TouchesToSpot S.X.block32 N.name64 (S.seen store.old) (S.seen store.new) tree.now source.now
+        thing names.now touches.old touches.new }
+    ensures touched { CallCounts result touches.old touches.new }
 {
     let what = Act::Change(Change::Remove(true));
     let left = match tree.edited_root::<S, N, L>(alloc, store, what, &[], source, touches) {
@@ -288,20 +238,16 @@ fn put_root<S: Store, N: NameHash, L: Ledger>(
     touches: &mut Steps<L>,
 ) -> Result<Entry, Stop>
     requires mfs { IsMfs tree.now }
-    ensures edits { (t : Tree) → IsPlanOf S.X.block32 N.name64 tree.now.profile entry.now t
-        → EditsFolder S.X.block32 N.name64 tree.now.profile (S.seen store.old) (S.seen store.new)
-        (blocks S.X.block32 N.name64 tree.now.profile t) tree.now.root (edited_at (put_over t) names.now) result }
-    ensures saves { OnlySaves S.X.block32
-        (IsBadInTree S.X.block32 N.name64 (Some tree.now.profile) tree.now.root.cid) (stop_fault result)
-        (S.seen store.old) (S.seen store.new) }
-    ensures touches { (t : Tree) → IsPlanOf S.X.block32 N.name64 tree.now.profile entry.now t
-        → TouchesFolder S.X.block32 N.name64 tree.now.profile (S.seen store.old) (S.seen store.new)
-        (blocks S.X.block32 N.name64 tree.now.profile t) tree.now.root
-        (λ es. 40 * length names.now + crossings_of S.X.block32 N.name64 tree.now.profile names.now es
-        (edited_at (put_over t) names.now es)) touches.old touches.new }
-    ensures missing { FolderMisses S.X.block32 N.name64 tree.now.profile (S.seen store.old) (S.seen store.new)
-        tree.now.root (put_needs S.X.block32 N.name64 tree.now.profile names.now) (stop_fault result) }
-    ensures touched { CountsUp (stop_fault result) touches.old touches.new }
+    ensures edits { EditsPut S.X.block32 N.name64 tree.now.profile (S.seen store.old) (S.seen store.new) entry.now
+        tree.now.root (λ t es. edited_at (put_over t) names.now es) result }
+    ensures saves { SavesInTree S.X.block32 N.name64 tree.now.profile tree.now.root.cid result (S.seen store.old)
+        (S.seen store.new) }
+    ensures touches { TouchesPut S.X.block32 N.name64 tree.now.profile (S.seen store.old) (S.seen store.new) entry.now
+        tree.now.root (λ t. edit_bound S.X.block32 N.name64 tree.now.profile names.now
+        (edited_at (put_over t) names.now)) touches.old touches.new }
+    ensures missing { PutMisses S.X.block32 N.name64 tree.now.profile (S.seen store.old) (S.seen store.new)
+        tree.now.root names.now (stop_fault result) }
+    ensures touched { StepCounts result touches.old touches.new }
 {
     let what = Act::Change(Change::Put(*entry));
     tree.edited_root::<S, N, L>(alloc, store, what, &[], names, touches)

@@ -1,18 +1,12 @@
 //! What the tree has at a path.
 ghost use Rattle.std.specs.Prelude.{◌≡◌, ◌≤◌, ◌+◌, ◌*◌, IfOk, None, length, max};
-ghost use Rattle.uf_edge.specs.Counts.{Stood};
-ghost use Rattle.uf_tree.specs.declared.profile.Profile.{Profile};
-ghost use Rattle.uf_tree.specs.Tree.{Dir, Entries};
-ghost use Rattle.uf_mfs.specs.Answers.{Answers, AnswersOr, ShownInTree};
-ghost use Rattle.uf_mfs.specs.Bad.{IsBadInTree, IsRequired};
-ghost use Rattle.uf_plain.specs.Edits.{at};
-ghost use Rattle.uf_plain.specs.Needs.{needs_at, own_needs, root_of, rows_need, way};
-ghost use Rattle.uf_store.specs.Lost.{IsLossOf};
+ghost use Rattle.uf_mfs.specs.Bad.{IsRequired};
+ghost use Rattle.uf_plain.specs.Needs.{own_needs, root_of, rows_need};
 ghost use Rattle.uf_plain.specs.Replies.{names_at, rows_at, stat_of as stat_at};
 ghost use Rattle.uf_mfs.specs.declared.thing.Thing.TheVariants.{Folder};
-ghost use Rattle.uf_mfs.specs.Standing.{IsAgreedThing, StandsAt, StandsOver};
-ghost use Rattle.uf_mfs.specs.Steps.{tree_fault};
-ghost use Rattle.uf_mfs.specs.Touches.{CountsUp, names_touches, read_bound, rows_touches, unseen, unseen_after};
+ghost use Rattle.uf_mfs.specs.Touches.{names_touches, rows_touches, unseen, unseen_after};
+ghost use Rattle.uf_mfs.specs.Over.{FindsThing, TellsAt, TellsOver, TouchesAt};
+ghost use Rattle.uf_mfs.specs.Showing.{CallCounts, ShowsReading};
 
 use crate::listing::{names_of, rows_of};
 use crate::looking::look;
@@ -36,27 +30,15 @@ impl Mfs {
         path: &Path,
         touches: &mut Steps<L>,
     ) -> Result<Rows, MfsFault>
-        ensures answer { (p : Profile) (es : Entries)
-            → StandsAt S.X.block32 N.name64 (S.seen store.old).told self.now p es
-            → Stood (S.seen store.old).faults (S.seen store.new).faults
-            → Answers (λ t rows. rows ≡ rows_at S.X.block32 N.name64 p path.now.names t) path.now.names
-            (at 0 path.now.names (Dir es)) result }
-        ensures lost { (p : Profile) (es : Entries)
-            → StandsOver S.X.block32 N.name64 (S.seen store.old).told self.now p es
-            → Stood (S.seen store.old).faults (S.seen store.new).faults
-            → AnswersOr (IsLossOf (S.seen store.old).told
-            (needs_at S.X.block32 N.name64 p (rows_need S.X.block32 N.name64 p) path.now.names (Dir es)))
-            (λ t rows. rows ≡ rows_at S.X.block32 N.name64 p path.now.names t) path.now.names
-            (at 0 path.now.names (Dir es)) result }
-        ensures cause { ShownInTree S.X.block32 (IsBadInTree S.X.block32 N.name64 None self.now.root.cid) result
-            (S.seen store.old) (S.seen store.new) }
+        ensures answer { TellsAt S.X.block32 N.name64 (S.seen store.old) (S.seen store.new) self.now path.now.names
+            (λ p t. rows_at S.X.block32 N.name64 p path.now.names t) result }
+        ensures lost { TellsOver S.X.block32 N.name64 (S.seen store.old) (S.seen store.new) self.now path.now.names
+            (rows_need S.X.block32 N.name64) (λ p t. rows_at S.X.block32 N.name64 p path.now.names t) result }
+        ensures cause { ShowsReading S.X.block32 N.name64 self.now result (S.seen store.old) (S.seen store.new) }
         ensures told { (S.seen store.new).told ≡ (S.seen store.old).told }
-        ensures touches { (p : Profile) (es : Entries)
-            → StandsOver S.X.block32 N.name64 (S.seen store.old).told self.now p es
-            → Stood (S.seen store.old).faults (S.seen store.new).faults
-            → touches.new ≤ touches.old + read_bound
-            (rows_touches S.X.block32 N.name64 p) path.now.names (Dir es) }
-        ensures touched { CountsUp (tree_fault result) touches.old touches.new }
+        ensures touches { TouchesAt S.X.block32 N.name64 (S.seen store.old) (S.seen store.new) self.now path.now.names
+            (rows_touches S.X.block32 N.name64) touches.old touches.new }
+        ensures touched { CallCounts result touches.old touches.new }
     {
         let names = path.names.as_slice();
         let thing = self.thing_at::<S, N, L>(alloc, store, names, touches)?;
@@ -72,26 +54,15 @@ impl Mfs {
         path: &Path,
         touches: &mut Steps<L>,
     ) -> Result<Names, MfsFault>
-        ensures answer { (p : Profile) (es : Entries)
-            → StandsAt S.X.block32 N.name64 (S.seen store.old).told self.now p es
-            → Stood (S.seen store.old).faults (S.seen store.new).faults
-            → Answers (λ t names. names ≡ names_at path.now.names t) path.now.names (at 0 path.now.names (Dir es))
-            result }
-        ensures lost { (p : Profile) (es : Entries)
-            → StandsOver S.X.block32 N.name64 (S.seen store.old).told self.now p es
-            → Stood (S.seen store.old).faults (S.seen store.new).faults
-            → AnswersOr (IsLossOf (S.seen store.old).told
-            (needs_at S.X.block32 N.name64 p (own_needs S.X.block32 N.name64 p) path.now.names (Dir es)))
-            (λ t names. names ≡ names_at path.now.names t) path.now.names (at 0 path.now.names (Dir es)) result }
-        ensures cause { ShownInTree S.X.block32 (IsBadInTree S.X.block32 N.name64 None self.now.root.cid) result
-            (S.seen store.old) (S.seen store.new) }
+        ensures answer { TellsAt S.X.block32 N.name64 (S.seen store.old) (S.seen store.new) self.now path.now.names
+            (λ p t. names_at path.now.names t) result }
+        ensures lost { TellsOver S.X.block32 N.name64 (S.seen store.old) (S.seen store.new) self.now path.now.names
+            (own_needs S.X.block32 N.name64) (λ p t. names_at path.now.names t) result }
+        ensures cause { ShowsReading S.X.block32 N.name64 self.now result (S.seen store.old) (S.seen store.new) }
         ensures told { (S.seen store.new).told ≡ (S.seen store.old).told }
-        ensures touches { (p : Profile) (es : Entries)
-            → StandsOver S.X.block32 N.name64 (S.seen store.old).told self.now p es
-            → Stood (S.seen store.old).faults (S.seen store.new).faults
-            → touches.new ≤ touches.old + read_bound
-            (names_touches S.X.block32 N.name64 p) path.now.names (Dir es) }
-        ensures touched { CountsUp (tree_fault result) touches.old touches.new }
+        ensures touches { TouchesAt S.X.block32 N.name64 (S.seen store.old) (S.seen store.new) self.now path.now.names
+            (names_touches S.X.block32 N.name64) touches.old touches.new }
+        ensures touched { CallCounts result touches.old touches.new }
     {
         let names = path.names.as_slice();
         let thing = self.thing_at::<S, N, L>(alloc, store, names, touches)?;
@@ -107,22 +78,14 @@ impl Mfs {
         path: &Path,
         touches: &mut Steps<L>,
     ) -> Result<Stat, MfsFault>
-        ensures answer { (p : Profile) (es : Entries)
-            → StandsAt S.X.block32 N.name64 (S.seen store.old).told self.now p es
-            → Stood (S.seen store.old).faults (S.seen store.new).faults
-            → Answers (λ t stat. stat ≡ stat_at S.X.block32 N.name64 p t) path.now.names (at 0 path.now.names (Dir es))
-            result }
-        ensures lost { (p : Profile) (es : Entries)
-            → StandsOver S.X.block32 N.name64 (S.seen store.old).told self.now p es
-            → Stood (S.seen store.old).faults (S.seen store.new).faults
-            → AnswersOr (IsLossOf (S.seen store.old).told
-            (needs_at S.X.block32 N.name64 p (root_of S.X.block32 N.name64 p) path.now.names (Dir es)))
-            (λ t stat. stat ≡ stat_at S.X.block32 N.name64 p t) path.now.names (at 0 path.now.names (Dir es)) result }
-        ensures cause { ShownInTree S.X.block32 (IsBadInTree S.X.block32 N.name64 None self.now.root.cid) result
-            (S.seen store.old) (S.seen store.new) }
+        ensures answer { TellsAt S.X.block32 N.name64 (S.seen store.old) (S.seen store.new) self.now path.now.names
+            (stat_at S.X.block32 N.name64) result }
+        ensures lost { TellsOver S.X.block32 N.name64 (S.seen store.old) (S.seen store.new) self.now path.now.names
+            (root_of S.X.block32 N.name64) (stat_at S.X.block32 N.name64) result }
+        ensures cause { ShowsReading S.X.block32 N.name64 self.now result (S.seen store.old) (S.seen store.new) }
         ensures told { (S.seen store.new).told ≡ (S.seen store.old).told }
         ensures touches { touches.new ≤ touches.old + max (11 * length path.now.names) 1 }
-        ensures touched { CountsUp (tree_fault result) touches.old touches.new }
+        ensures touched { CallCounts result touches.old touches.new }
     {
         let names = path.names.as_slice();
         let thing = self.thing_at::<S, N, L>(alloc, store, names, touches)?;
@@ -138,17 +101,12 @@ impl Mfs {
         names: &[Name],
         touches: &mut Steps<L>,
     ) -> Result<Thing, MfsFault>
-        ensures finds { (p : Profile) (es : Entries)
-            → StandsOver S.X.block32 N.name64 (S.seen store.old).told self.now p es
-            → Stood (S.seen store.old).faults (S.seen store.new).faults
-            → AnswersOr (IsLossOf (S.seen store.old).told (way S.X.block32 N.name64 p names.now (Dir es)))
-            (λ t thing. IsAgreedThing S.X.block32 N.name64 (S.seen store.old).told p t thing) names.now
-            (at 0 names.now (Dir es)) result }
-        ensures cause { ShownInTree S.X.block32 (IsBadInTree S.X.block32 N.name64 None self.now.root.cid) result
-            (S.seen store.old) (S.seen store.new) }
+        ensures finds { FindsThing S.X.block32 N.name64 (S.seen store.old) (S.seen store.new) self.now names.now
+            result }
+        ensures cause { ShowsReading S.X.block32 N.name64 self.now result (S.seen store.old) (S.seen store.new) }
         ensures told { (S.seen store.new).told ≡ (S.seen store.old).told }
         ensures touches { touches.new ≤ touches.old + 11 * length names.now }
-        ensures touched { CountsUp (tree_fault result) touches.old touches.new }
+        ensures touched { CallCounts result touches.old touches.new }
         ensures seen { IfOk result (λ found. unseen found ≡ unseen_after names.now (Folder self.now.root None)) }
         ensures required { IfOk result (IsRequired S.X.block32 self.now.root.cid) }
     {

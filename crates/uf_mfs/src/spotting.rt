@@ -1,23 +1,16 @@
 //! Where something is put in the tree.
-ghost use Rattle.std.specs.Prelude.{◌≡◌, ◌+◌, ◌*◌, ◌≤◌, ◌<◌, IfOk, IfSome, None, Ok, Some, length, option_copied};
+ghost use Rattle.std.specs.Prelude.{◌≡◌, ◌+◌, ◌*◌, ◌≤◌, IfOk, IfSome, Ok, Some, length, option_copied};
 ghost use Rattle.std.specs.Prelude.{true};
-ghost use Rattle.uf_edge.specs.Counts.{Stood};
-ghost use Rattle.uf_store.specs.Calls.{OnlyReads};
-ghost use Rattle.uf_store.specs.Lost.{IsLossOf};
-ghost use Rattle.uf_tree.specs.declared.profile.Profile.{Profile as TheProfile};
-ghost use Rattle.uf_tree.specs.Tree.{Dir, Entries};
-ghost use Rattle.uf_plain.specs.Edits.{child};
-ghost use Rattle.uf_plain.specs.Moves.{folder_at, spot_in, spotted, target, told_of};
-ghost use Rattle.uf_plain.specs.Needs.{member_needs, way};
-ghost use Rattle.uf_plain.specs.Rules.{rule_of};
+ghost use Rattle.uf_tree.specs.Tree.{Dir};
+ghost use Rattle.uf_plain.specs.Moves.{folder_at, spotted, target, told_of};
 ghost use Rattle.uf_plain.specs.declared.rule.Refused.TheVariants as why;
-ghost use Rattle.uf_mfs.specs.Answers.{MeetsOr, ShownInTree, Tells};
-ghost use Rattle.uf_mfs.specs.Bad.{IsBadInTree, IsRequired, RequiresDirectory};
-ghost use Rattle.uf_mfs.specs.Moving.{Gives, GivesOr, GivesOver, IsFound, ReadsTree, folder_there, lands, vacant_at};
-ghost use Rattle.uf_mfs.specs.Standing.{IsAgreed, IsAgreedMember, StandsAt, StandsOver};
-ghost use Rattle.uf_mfs.specs.Steps.{stop_fault, tree_fault};
-ghost use Rattle.uf_mfs.specs.Touches.{CountsUp};
+ghost use Rattle.uf_mfs.specs.Answers.{Tells};
+ghost use Rattle.uf_mfs.specs.Bad.{IsRequired, RequiresDirectory};
+ghost use Rattle.uf_mfs.specs.Moving.{FindsTarget, Gives, GivesSpot, SpotsOver, folder_there, lands, vacant_at};
+ghost use Rattle.uf_mfs.specs.Steps.{stop_fault};
 ghost use Rattle.uf_mfs.specs.declared.fault.Stop.TheVariants as stop;
+ghost use Rattle.uf_mfs.specs.Over.{LooksAlong, WholeTree};
+ghost use Rattle.uf_mfs.specs.Showing.{CallCounts, ReadsBelow, ReadsInTree, ShowsReading, StepCounts};
 
 use crate::looking::{look, member};
 use crate::target::MoveTarget;
@@ -42,20 +35,14 @@ impl Mfs {
         name: Option<&Name>,
         touches: &mut Steps<L>,
     ) -> Result<Spot, MfsFault>
-        ensures answer { (p : TheProfile) (es : Entries)
-            → StandsAt S.X.block32 N.name64 (S.seen store.old).told self.now p es
-            → Stood (S.seen store.old).faults (S.seen store.new).faults
-            → Gives (λ spot given. given ≡ spot) (spotted dest.now (option_copied name.entry) es) result }
-        ensures lost { (p : TheProfile) (es : Entries)
-            → StandsOver S.X.block32 N.name64 (S.seen store.old).told self.now p es
-            → Stood (S.seen store.old).faults (S.seen store.new).faults
-            → GivesOver S.X.block32 N.name64 (S.seen store.old).told p es (λ spot given. given ≡ spot)
-            (spotted dest.now (option_copied name.entry) es) result }
-        ensures cause { ShownInTree S.X.block32 (IsBadInTree S.X.block32 N.name64 None self.now.root.cid) result
-            (S.seen store.old) (S.seen store.new) }
+        ensures answer { WholeTree S.X.block32 N.name64 (S.seen store.old) (S.seen store.new) self.now
+            (λ p es. Gives (λ spot given. given ≡ spot) (spotted dest.now (option_copied name.entry) es) result) }
+        ensures lost { SpotsOver S.X.block32 N.name64 (S.seen store.old) (S.seen store.new) self.now
+            (spotted dest.now (option_copied name.entry)) result }
+        ensures cause { ShowsReading S.X.block32 N.name64 self.now result (S.seen store.old) (S.seen store.new) }
         ensures told { (S.seen store.new).told ≡ (S.seen store.old).told }
         ensures touches { touches.new ≤ touches.old + 11 * (length dest.now.names + 1) }
-        ensures touched { CountsUp (tree_fault result) touches.old touches.new }
+        ensures touched { CallCounts result touches.old touches.new }
     {
         let names = dest.names.as_slice();
         if dest.into {
@@ -79,15 +66,11 @@ fn spot_in<S: Store, N: NameHash, L: Ledger>(
     root: &Entry,
     touches: &mut Steps<L>,
 ) -> Result<Spot, MfsFault>
-    ensures spots { (p : TheProfile) (es : Entries)
-        → IsAgreed S.X.block32 N.name64 (S.seen store.old).told p root.now (Dir es)
-        → Stood (S.seen store.old).faults (S.seen store.new).faults
-        → GivesOver S.X.block32 N.name64 (S.seen store.old).told p es (λ spot given. given ≡ spot)
-        (spotted (record { names = names.now; into = true }) (option_copied name.entry) es) result }
-    ensures reads { ReadsTree S.X.block32 (IsBadInTree S.X.block32 N.name64 None root.now.cid) result
-        (S.seen store.old) (S.seen store.new) }
+    ensures spots { GivesSpot S.X.block32 N.name64 (S.seen store.old) (S.seen store.new) root.now
+        (spotted (record { names = names.now; into = true }) (option_copied name.entry)) result }
+    ensures reads { ReadsInTree S.X.block32 N.name64 root.now.cid result (S.seen store.old) (S.seen store.new) }
     ensures touches { touches.new ≤ touches.old + 11 * (length names.now + 1) }
-    ensures touched { CountsUp (tree_fault result) touches.old touches.new }
+    ensures touched { CallCounts result touches.old touches.new }
 {
     match name {
         Some(name) => vacant::<S, N, L>(alloc, store, names, names, name, root, touches),
@@ -108,15 +91,11 @@ fn vacant<S: Store, N: NameHash, L: Ledger>(
     root: &Entry,
     touches: &mut Steps<L>,
 ) -> Result<Spot, MfsFault>
-    ensures spots { (p : TheProfile) (es : Entries)
-        → IsAgreed S.X.block32 N.name64 (S.seen store.old).told p root.now (Dir es)
-        → Stood (S.seen store.old).faults (S.seen store.new).faults
-        → GivesOver S.X.block32 N.name64 (S.seen store.old).told p es (λ spot given. given ≡ spot)
-        (vacant_at told.now folder.now name.now es) result }
-    ensures reads { ReadsTree S.X.block32 (IsBadInTree S.X.block32 N.name64 None root.now.cid) result
-        (S.seen store.old) (S.seen store.new) }
+    ensures spots { GivesSpot S.X.block32 N.name64 (S.seen store.old) (S.seen store.new) root.now
+        (vacant_at told.now folder.now name.now) result }
+    ensures reads { ReadsInTree S.X.block32 N.name64 root.now.cid result (S.seen store.old) (S.seen store.new) }
     ensures touches { touches.new ≤ touches.old + 11 * (length folder.now + 1) }
-    ensures touched { CountsUp (tree_fault result) touches.old touches.new }
+    ensures touched { CallCounts result touches.old touches.new }
 {
     let target = landing::<S, N, L>(alloc, store, told, folder, name, root, touches)?;
     match target.there {
@@ -134,15 +113,11 @@ pub(crate) fn target_of<S: Store, N: NameHash, L: Ledger>(
     root: &Entry,
     touches: &mut Steps<L>,
 ) -> Result<MoveTarget, MfsFault>
-    ensures found { (p : TheProfile) (es : Entries)
-        → IsAgreed S.X.block32 N.name64 (S.seen store.old).told p root.now (Dir es)
-        → Stood (S.seen store.old).faults (S.seen store.new).faults
-        → GivesOver S.X.block32 N.name64 (S.seen store.old).told p es
-        (IsFound S.X.block32 N.name64 (S.seen store.old).told p) (target dest.now (Some name.now) es) result }
-    ensures reads { ReadsTree S.X.block32 (IsBadInTree S.X.block32 N.name64 None root.now.cid) result
-        (S.seen store.old) (S.seen store.new) }
+    ensures found { FindsTarget S.X.block32 N.name64 (S.seen store.old) (S.seen store.new) root.now
+        (target dest.now (Some name.now)) result }
+    ensures reads { ReadsInTree S.X.block32 N.name64 root.now.cid result (S.seen store.old) (S.seen store.new) }
     ensures touches { touches.new ≤ touches.old + 11 * (length dest.now.names + 1) }
-    ensures touched { CountsUp (tree_fault result) touches.old touches.new }
+    ensures touched { CallCounts result touches.old touches.new }
 {
     let names = dest.names.as_slice();
     if dest.into {
@@ -181,17 +156,12 @@ fn landing<S: Store, N: NameHash, L: Ledger>(
     root: &Entry,
     touches: &mut Steps<L>,
 ) -> Result<MoveTarget, MfsFault>
-    ensures found { (p : TheProfile) (es : Entries)
-        → IsAgreed S.X.block32 N.name64 (S.seen store.old).told p root.now (Dir es)
-        → Stood (S.seen store.old).faults (S.seen store.new).faults
-        → GivesOver S.X.block32 N.name64 (S.seen store.old).told p es
-        (IsFound S.X.block32 N.name64 (S.seen store.old).told p)
-        (told_of told.now (lands folder.now name.now es)) result }
-    ensures reads { ReadsTree S.X.block32 (IsBadInTree S.X.block32 N.name64 None root.now.cid) result
-        (S.seen store.old) (S.seen store.new) }
+    ensures found { FindsTarget S.X.block32 N.name64 (S.seen store.old) (S.seen store.new) root.now
+        (λ es. told_of told.now (lands folder.now name.now es)) result }
+    ensures reads { ReadsInTree S.X.block32 N.name64 root.now.cid result (S.seen store.old) (S.seen store.new) }
     ensures required { IfOk result (λ target. IfSome target.there (IsRequired S.X.block32 root.now.cid)) }
     ensures touches { touches.new ≤ touches.old + 11 * (length folder.now + 1) }
-    ensures touched { CountsUp (tree_fault result) touches.old touches.new }
+    ensures touched { CallCounts result touches.old touches.new }
 {
     match look_at_folder::<S, N, L>(alloc, store, folder, root, touches) {
         Err(stop) => Err(fault_of(alloc, told, stop)),
@@ -208,17 +178,12 @@ fn under<S: Store, N: NameHash, L: Ledger>(
     entry: &Entry,
     touches: &mut Steps<L>,
 ) -> Result<MoveTarget, MfsFault>
-    ensures found { (p : TheProfile) (fs : Entries)
-        → IsAgreed S.X.block32 N.name64 (S.seen store.old).told p entry.now (Dir fs)
-        → Stood (S.seen store.old).faults (S.seen store.new).faults
-        → GivesOver S.X.block32 N.name64 (S.seen store.old).told p fs
-        (IsFound S.X.block32 N.name64 (S.seen store.old).told p)
-        (Ok (record { folder = folder.now; name = name.now }, fs)) result }
-    ensures reads { ReadsTree S.X.block32 (IsBadInTree S.X.block32 N.name64 None entry.now.cid) result
-        (S.seen store.old) (S.seen store.new) }
+    ensures found { FindsTarget S.X.block32 N.name64 (S.seen store.old) (S.seen store.new) entry.now
+        (λ es. Ok (record { folder = folder.now; name = name.now }, es)) result }
+    ensures reads { ReadsInTree S.X.block32 N.name64 entry.now.cid result (S.seen store.old) (S.seen store.new) }
     ensures required { IfOk result (λ target. IfSome target.there (IsRequired S.X.block32 entry.now.cid)) }
     ensures touches { touches.new ≤ touches.old + 11 }
-    ensures touched { CountsUp (tree_fault result) touches.old touches.new }
+    ensures touched { CallCounts result touches.old touches.new }
 {
     match member::<S, N, L>(alloc, store, entry, name, touches) {
         Err(stop) => Err(fault_of(alloc, folder, stop)),
@@ -237,16 +202,13 @@ fn look_at_folder<S: Store, N: NameHash, L: Ledger>(
     root: &Entry,
     touches: &mut Steps<L>,
 ) -> Result<Entry, Stop>
-    ensures looks { (p : TheProfile) (es : Entries)
-        → IsAgreed S.X.block32 N.name64 (S.seen store.old).told p root.now (Dir es)
-        → Stood (S.seen store.old).faults (S.seen store.new).faults
-        → MeetsOr (IsLossOf (S.seen store.old).told (way S.X.block32 N.name64 p names.now (Dir es)))
-        (λ fs e. IsAgreed S.X.block32 N.name64 (S.seen store.old).told p e (Dir fs)) (folder_at names.now es) result }
-    ensures reads { OnlyReads S.X.block32 (IsBadInTree S.X.block32 N.name64 None root.now.cid)
-        (stop_fault result) (S.seen store.old) (S.seen store.new) }
+    ensures looks { LooksAlong S.X.block32 N.name64 (S.seen store.old) (S.seen store.new) root.now names.now
+        (λ es. Dir es) (folder_at names.now) result }
+    ensures reads { ReadsBelow S.X.block32 N.name64 root.now.cid (stop_fault result) (S.seen store.old)
+        (S.seen store.new) }
     ensures required { IfOk result (λ e. RequiresDirectory S.X.block32 root.now.cid e.cid.digest) }
     ensures touches { touches.new ≤ touches.old + 11 * length names.now }
-    ensures touched { CountsUp (stop_fault result) touches.old touches.new }
+    ensures touched { StepCounts result touches.old touches.new }
 {
     match look::<S, N, L>(alloc, store, 0, names, Thing::Folder(*root, None), touches)? {
         Thing::Folder(entry, _) => Ok(entry),

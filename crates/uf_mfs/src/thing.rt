@@ -9,7 +9,8 @@ pub struct FolderRoot {
     pub meta: Meta,
 }
 
-/// What a path leads to, by its entry, and what its root block says of it: of a folder only where the block was loaded.
+/// What a path leads to, by its entry, and what its root block says of it: of a folder only where the block was
+/// loaded.
 #[derive(Clone, Copy, PartialEq, Eq)]
 pub enum Thing {
     File(Entry, FileSize),

@@ -3,7 +3,7 @@ use Rattle.std.proofs.Common.{◌≡◌, ℕ, ◌<◌, ◌-◌, ◌^◌, List, N
 use Rattle.std.specs.declared.result.Result.{Result}
 use Rattle.uf_cid.specs.declared.cid.Cid.{Cid}
 use Rattle.uf_edge.specs.Counts.{Stood}
-use Rattle.uf_mfs.specs.Answers.{Answers, Moves}
+use Rattle.uf_mfs.specs.Answers.{Answers, MovesTo}
 use Rattle.uf_mfs.specs.Standing.{Inits, StandsAt}
 use Rattle.uf_mfs.specs.declared.mfs.Mfs.{Mfs}
 use Rattle.uf_plain.specs.Edits.{made}
@@ -34,7 +34,7 @@ module _ (X : List ℕ → List ℕ) (N : List ℕ → ℕ) (names : List (List 
   pub root-over : (p : Profile) (told : Told) (before ready now : Seen) (first last : Mfs) (done : Unit {0}) (cid : Cid)
       → p ≡ usual → IfSome told (λ t. Stood before.faults ready.faults → Stood before.clashes ready.clashes → Inits X N ready.told p t.notes.head (Ok first))
       → StaysCalm before ready → StaysCalm ready now
-      → ((p : Profile) (es : Entries) → StandsAt X N ready.told first p es → Stood ready.faults now.faults → Stood ready.clashes now.clashes → Moves X N now.told p names last (made false names es) (Ok done))
+      → ((p : Profile) (es : Entries) → StandsAt X N ready.told first p es → Stood ready.faults now.faults → Stood ready.clashes now.clashes → MovesTo X N now.told p names last (allowed X N p (made false names es)) (Ok done))
       → cid ≡ last.root.cid
       → IfSome told (λ t. t.notes.head ≡ None → before.faults < 2 ^ 64 - 1 → before.clashes < 2 ^ 64 - 1 → IsRootWith X N names cid)
   root-over p None before ready now first last done cid same inits calm still moves is = tt

@@ -14,24 +14,24 @@ use Rattle.uf_mfs.proofs.changing.edit_root.Goals as goal
 pub returns-in-Remake-clause-edits : goal.returns-in-Remake-clause-edits
 returns-in-Remake-clause-edits g c = λ more es o.
     let X = g.S.X.BlockHash.block32 in let N = g.N.NameHash.name64 in let p = c.args.site.now.profile in let root = c.args.root.now in
-    let a = g.S.Store.seen c.args.store.now in let b = g.S.Store.seen c.remade.new.store in
-    subst (λ (act : Act). ChangesOver X N p a b more es (acted_root act es) c.remade.result) (sym c.in-Remake.is)
-    (root-remade X N p a b more c.in-Remake.what es c.remade.result
-    (c.remade.ensures.gives (Dir es) (agreed-beside X N p more root es o, tt) (stays-some a.told b.told _ _ (back-among more (blocks X N p (Dir es))) o.stays) o.calm))
+    let a = g.S.Store.seen c.args.store.now in let b = g.S.Store.seen c.change_meta.new.store in
+    subst (λ (act : Act). ChangesOver X N p a b more es (acted_root act es) c.change_meta.result) (sym c.in-Remake.is)
+    (root-remade X N p a b more c.in-Remake.what es c.change_meta.result
+    (c.change_meta.ensures.gives (Dir es) (agreed-beside X N p more root es o, tt) (stays-some a.told b.told _ _ (back-among more (blocks X N p (Dir es))) o.stays) o.calm))
 
 pub returns-in-Remake-clause-idle : goal.returns-in-Remake-clause-idle
 returns-in-Remake-clause-idle g c = λ q es i stood left.
-    c.remade.ensures.idle q (Dir es) (i, tt) stood (subst (λ (act : Act). LeavesTree act c.args.site.now.piece.now (Dir es)) c.in-Remake.is left)
+    c.change_meta.ensures.idle q (Dir es) (i, tt) stood (subst (λ (act : Act). LeavesTree act c.args.site.now.piece.now (Dir es)) c.in-Remake.is left)
 
 pub returns-in-Remake-clause-made : goal.returns-in-Remake-clause-made
-returns-in-Remake-clause-made g c = c.remade.ensures.made c.args.root.now None refl
+returns-in-Remake-clause-made g c = c.change_meta.ensures.made c.args.root.now None refl
 
 pub returns-in-Remake-clause-saves : goal.returns-in-Remake-clause-saves
 returns-in-Remake-clause-saves g c =
     let X = g.S.X.BlockHash.block32 in let N = g.N.NameHash.name64 in let p = c.args.site.now.profile in let root = c.args.root.now in
-    let a = g.S.Store.seen c.args.store.now in let b = g.S.Store.seen c.remade.new.store in
-    subst (λ (act : Act). OnlySaves X (IsBadActed X N p b.told root.cid act) (stop_fault c.remade.result) a b) (sym c.in-Remake.is) (c.remade.ensures.saves root.cid (AtRoot refl))
+    let a = g.S.Store.seen c.args.store.now in let b = g.S.Store.seen c.change_meta.new.store in
+    subst (λ (act : Act). OnlySaves X (IsBadActed X N p b.told root.cid act) (stop_fault c.change_meta.result) a b) (sym c.in-Remake.is) (c.change_meta.ensures.saves root.cid (AtRoot refl))
 
 pub returns-in-Remake-clause-touches : goal.returns-in-Remake-clause-touches
 returns-in-Remake-clause-touches g c =
-    subst (λ (act : Act). c.remade.new.touches ≤ c.args.touches.now + root_touches act) (sym c.in-Remake.is) c.remade.ensures.touches
+    subst (λ (act : Act). c.change_meta.new.touches ≤ c.args.touches.now + root_touches act) (sym c.in-Remake.is) c.change_meta.ensures.touches

@@ -71,7 +71,7 @@ returns-in_ok-new-in-Rewrite-clause-touches g c =
 pub returns-in_err-new-in-Remake-clause-edits : goal.returns-in_err-new-in-Remake-clause-edits
 returns-in_err-new-in-Remake-clause-edits g c =
     let X = g.S.X.BlockHash.block32 in let N = g.N.NameHash.name64 in let site = c.args.site.now in let p = site.profile in let folder = c.args.folder.now in let name = c.args.name.now in
-    let a = g.S.Store.seen c.args.store.now in let b = g.S.Store.seen c.remade_member.new.store in
+    let a = g.S.Store.seen c.args.store.now in let b = g.S.Store.seen c.change_member_meta.new.store in
     let s = c.in_err-new-in-Remake.field-0.0 in let out = err_from_is_err_and c.from_residual-in_err-new-in-Remake.result c.from_residual-in_err-new-in-Remake.ensures.1 in
     rw (out.1, out.2) (subst (EditsHere X N p a b folder name site.piece.now site.led c.args.found (Err s)) (sym c.in-Remake.is)
     (λ t es meant member o. remake-stopped X N p a.told b.told c.in-Remake.what (site.led + 1) folder name es s o.plan (c.in_err-new-in-Remake.ensures.gives (child name es) member (member-stays X N p a.told b.told name es o.stays) o.calm)))
@@ -79,28 +79,28 @@ returns-in_err-new-in-Remake-clause-edits g c =
 pub returns-in_err-new-in-Remake-clause-idle : goal.returns-in_err-new-in-Remake-clause-idle
 returns-in_err-new-in-Remake-clause-idle g c =
     let X = g.S.X.BlockHash.block32 in let N = g.N.NameHash.name64 in let site = c.args.site.now in let p = site.profile in let folder = c.args.folder.now in let name = c.args.name.now in
-    let a = g.S.Store.seen c.args.store.now in let b = g.S.Store.seen c.remade_member.new.store in
+    let a = g.S.Store.seen c.args.store.now in let b = g.S.Store.seen c.change_member_meta.new.store in
     let s = c.in_err-new-in-Remake.field-0.0 in let out = err_from_is_err_and c.from_residual-in_err-new-in-Remake.result c.from_residual-in_err-new-in-Remake.ensures.1 in
     rw out.1 (subst (IdleHere X N p a b folder name site.piece.now site.led c.args.found (Err s)) (sym c.in-Remake.is) (λ q t member stood left. c.in_err-new-in-Remake.ensures.idle q t member stood left))
 
 pub returns-in_err-new-in-Remake-clause-saves : goal.returns-in_err-new-in-Remake-clause-saves
 returns-in_err-new-in-Remake-clause-saves g c =
     let X = g.S.X.BlockHash.block32 in let N = g.N.NameHash.name64 in let site = c.args.site.now in let p = site.profile in let folder = c.args.folder.now in let name = c.args.name.now in
-    let a = g.S.Store.seen c.args.store.now in let b = g.S.Store.seen c.remade_member.new.store in
+    let a = g.S.Store.seen c.args.store.now in let b = g.S.Store.seen c.change_member_meta.new.store in
     let s = c.in_err-new-in-Remake.field-0.0 in let out = err_from_is_err_and c.from_residual-in_err-new-in-Remake.result c.from_residual-in_err-new-in-Remake.ensures.1 in
     rw (out.1, out.2) (subst (SavesHere X N p a b folder name site.piece.now site.led c.args.found (stop_fault {A = Option Entry} (Err s))) (sym c.in-Remake.is) (c.in_err-new-in-Remake.ensures.saves folder.cid c.requires.required))
 
 pub returns-in_err-new-in-Remake-clause-touches : goal.returns-in_err-new-in-Remake-clause-touches
 returns-in_err-new-in-Remake-clause-touches g c =
     let X = g.S.X.BlockHash.block32 in let N = g.N.NameHash.name64 in let site = c.args.site.now in let p = site.profile in let folder = c.args.folder.now in let name = c.args.name.now in
-    let a = g.S.Store.seen c.args.store.now in let b = g.S.Store.seen c.remade_member.new.store in
-    subst (TouchesHere X N p a b folder name site.piece.now site.led c.args.found c.args.touches.now c.remade_member.new.touches) (sym c.in-Remake.is)
+    let a = g.S.Store.seen c.args.store.now in let b = g.S.Store.seen c.change_member_meta.new.store in
+    subst (TouchesHere X N p a b folder name site.piece.now site.led c.args.found c.args.touches.now c.change_member_meta.new.touches) (sym c.in-Remake.is)
     (λ t rows es meant heights member o. let r = c.in_err-new-in-Remake.ensures.touches in omega (arith, r))
 
 pub returns-in_default-clause-edits : goal.returns-in_default-clause-edits
 returns-in_default-clause-edits g c =
     let X = g.S.X.BlockHash.block32 in let N = g.N.NameHash.name64 in let site = c.args.site.now in let p = site.profile in let folder = c.args.folder.now in let name = c.args.name.now in
-    let a = g.S.Store.seen c.args.store.now in let b = g.S.Store.seen c.remade_member.new.store in
+    let a = g.S.Store.seen c.args.store.now in let b = g.S.Store.seen c.change_member_meta.new.store in
     subst (EditsHere X N p a b folder name site.piece.now site.led c.args.found (Ok None)) (sym c.in-Remake.is)
     (λ t es meant member o. remake-none X N p a.told b.told c.in-Remake.what (site.led + 1) name es o.plan.tree
     (subst (λ (new : Option Entry). ChangesMember X N p a.told b.told c.in-Remake.what (site.led + 1) (child name es) (Ok new)) c.in_default.is (c.in_ok-new-in-Remake.ensures.gives (child name es) member (member-stays X N p a.told b.told name es o.stays) o.calm)))
@@ -108,26 +108,26 @@ returns-in_default-clause-edits g c =
 pub returns-in_default-clause-idle : goal.returns-in_default-clause-idle
 returns-in_default-clause-idle g c =
     let X = g.S.X.BlockHash.block32 in let N = g.N.NameHash.name64 in let site = c.args.site.now in let p = site.profile in let folder = c.args.folder.now in let name = c.args.name.now in
-    let a = g.S.Store.seen c.args.store.now in let b = g.S.Store.seen c.remade_member.new.store in
+    let a = g.S.Store.seen c.args.store.now in let b = g.S.Store.seen c.change_member_meta.new.store in
     subst (IdleHere X N p a b folder name site.piece.now site.led c.args.found (Ok None)) (sym c.in-Remake.is) (λ q t member stood left. ((c.in_ok-new-in-Remake.ensures.idle q t member stood left).0, refl))
 
 pub returns-in_default-clause-saves : goal.returns-in_default-clause-saves
 returns-in_default-clause-saves g c =
     let X = g.S.X.BlockHash.block32 in let N = g.N.NameHash.name64 in let site = c.args.site.now in let p = site.profile in let folder = c.args.folder.now in let name = c.args.name.now in
-    let a = g.S.Store.seen c.args.store.now in let b = g.S.Store.seen c.remade_member.new.store in
+    let a = g.S.Store.seen c.args.store.now in let b = g.S.Store.seen c.change_member_meta.new.store in
     subst (SavesHere X N p a b folder name site.piece.now site.led c.args.found None) (sym c.in-Remake.is) (c.in_ok-new-in-Remake.ensures.saves folder.cid c.requires.required)
 
 pub returns-in_default-clause-touches : goal.returns-in_default-clause-touches
 returns-in_default-clause-touches g c =
     let X = g.S.X.BlockHash.block32 in let N = g.N.NameHash.name64 in let site = c.args.site.now in let p = site.profile in let folder = c.args.folder.now in let name = c.args.name.now in
-    let a = g.S.Store.seen c.args.store.now in let b = g.S.Store.seen c.remade_member.new.store in
-    subst (TouchesHere X N p a b folder name site.piece.now site.led c.args.found c.args.touches.now c.remade_member.new.touches) (sym c.in-Remake.is)
+    let a = g.S.Store.seen c.args.store.now in let b = g.S.Store.seen c.change_member_meta.new.store in
+    subst (TouchesHere X N p a b folder name site.piece.now site.led c.args.found c.args.touches.now c.change_member_meta.new.touches) (sym c.in-Remake.is)
     (λ t rows es meant heights member o. let r = c.in_ok-new-in-Remake.ensures.touches in omega (arith, r))
 
 pub returns-in-Some-clause-edits : goal.returns-in-Some-clause-edits
 returns-in-Some-clause-edits g c =
     let X = g.S.X.BlockHash.block32 in let N = g.N.NameHash.name64 in let site = c.args.site.now in let p = site.profile in let folder = c.args.folder.now in let name = c.args.name.now in
-    let a = g.S.Store.seen c.args.store.now in let b = g.S.Store.seen c.remade_member.new.store in
+    let a = g.S.Store.seen c.args.store.now in let b = g.S.Store.seen c.change_member_meta.new.store in
     let d = g.S.Store.seen c.put_in-in-Remake.new.store in let before = c.in_ok-new-in-Remake.ensures.saves folder.cid c.requires.required in let after = c.put_in-in-Remake.ensures.saves in
     subst (EditsHere X N p a d folder name site.piece.now site.led c.args.found c.put_in-in-Remake.result) (sym c.in-Remake.is) (λ t es meant member o.
     let first = over-first X N p before after [] folder es o in
@@ -138,7 +138,7 @@ returns-in-Some-clause-edits g c =
 pub returns-in-Some-clause-idle : goal.returns-in-Some-clause-idle
 returns-in-Some-clause-idle g c =
     let X = g.S.X.BlockHash.block32 in let N = g.N.NameHash.name64 in let site = c.args.site.now in let p = site.profile in let folder = c.args.folder.now in let name = c.args.name.now in
-    let a = g.S.Store.seen c.args.store.now in let b = g.S.Store.seen c.remade_member.new.store in
+    let a = g.S.Store.seen c.args.store.now in let b = g.S.Store.seen c.change_member_meta.new.store in
     let d = g.S.Store.seen c.put_in-in-Remake.new.store in let before = c.in_ok-new-in-Remake.ensures.saves folder.cid c.requires.required in
     subst (IdleHere X N p a d folder name site.piece.now site.led c.args.found c.put_in-in-Remake.result) (sym c.in-Remake.is) (λ q t member stood left.
     let done = c.in_ok-new-in-Remake.ensures.idle q t member (stood-before X _ _ (stop_fault c.put_in-in-Remake.result) a b d before c.put_in-in-Remake.ensures.saves stood) left in
@@ -147,7 +147,7 @@ returns-in-Some-clause-idle g c =
 pub returns-in-Some-clause-saves : goal.returns-in-Some-clause-saves
 returns-in-Some-clause-saves g c =
     let X = g.S.X.BlockHash.block32 in let N = g.N.NameHash.name64 in let site = c.args.site.now in let p = site.profile in let folder = c.args.folder.now in let name = c.args.name.now in
-    let a = g.S.Store.seen c.args.store.now in let b = g.S.Store.seen c.remade_member.new.store in
+    let a = g.S.Store.seen c.args.store.now in let b = g.S.Store.seen c.change_member_meta.new.store in
     let d = g.S.Store.seen c.put_in-in-Remake.new.store in
     subst (SavesHere X N p a d folder name site.piece.now site.led c.args.found (stop_fault c.put_in-in-Remake.result)) (sym c.in-Remake.is)
     (saves-saves (c.in_ok-new-in-Remake.ensures.saves folder.cid c.requires.required) (tree-saves X N p folder.cid c.put_in-in-Remake.ensures.saves))
@@ -155,13 +155,13 @@ returns-in-Some-clause-saves g c =
 pub returns-in-Some-clause-touches : goal.returns-in-Some-clause-touches
 returns-in-Some-clause-touches g c =
     let X = g.S.X.BlockHash.block32 in let N = g.N.NameHash.name64 in let site = c.args.site.now in let p = site.profile in let folder = c.args.folder.now in let name = c.args.name.now in
-    let a = g.S.Store.seen c.args.store.now in let b = g.S.Store.seen c.remade_member.new.store in
+    let a = g.S.Store.seen c.args.store.now in let b = g.S.Store.seen c.change_member_meta.new.store in
     let d = g.S.Store.seen c.put_in-in-Remake.new.store in let before = c.in_ok-new-in-Remake.ensures.saves folder.cid c.requires.required in let after = c.put_in-in-Remake.ensures.saves in
     subst (TouchesHere X N p a d folder name site.piece.now site.led c.args.found c.args.touches.now c.put_in-in-Remake.new.touches) (sym c.in-Remake.is) (λ t rows es meant heights member o.
     let first = over-first X N p before after [] folder es o in
     remake-touches X N p before after folder c.in-Some.new c.in-Remake.what (site.led + 1) name es o
     (subst (λ (new : Option Entry). ChangesMember X N p a.told b.told c.in-Remake.what (site.led + 1) (child name es) (Ok new)) c.in-Some.is (c.in_ok-new-in-Remake.ensures.gives (child name es) member (member-stays X N p a.told b.told name es first.stays) first.calm))
-    c.args.touches.now c.remade_member.new.touches c.put_in-in-Remake.new.touches c.in_ok-new-in-Remake.ensures.touches c.put_in-in-Remake.ensures.touches)
+    c.args.touches.now c.change_member_meta.new.touches c.put_in-in-Remake.new.touches c.in_ok-new-in-Remake.ensures.touches c.put_in-in-Remake.ensures.touches)
 
 pub returns-in_err-new-in-Rewrite-clause-idle : goal.returns-in_err-new-in-Rewrite-clause-idle
 returns-in_err-new-in-Rewrite-clause-idle g c =

@@ -12,11 +12,11 @@ pub returns-clause-gives : goal.returns-clause-gives
 returns-clause-gives g c = λ N folder es over.
     let X = g.S.X.BlockHash.block32 in let p = c.args.site.now.profile in
     let a = g.S.Store.seen c.args.store.now in let b = g.S.Store.seen c.create.new.store in
-    created-file X N p a b folder es c.args.meta.now c.args.how.offset c.args.site.now.piece.now c.create.result c.stepped.result over c.requires.good c.slices_hold_bytes.ensures
-    c.create.ensures.long c.create.ensures.value c.create.ensures.held c.stepped.ensures
+    created-file X N p a b folder es c.args.meta.now c.args.how.offset c.args.site.now.piece.now c.create.result c.as_step.result over c.requires.good c.slices_hold_bytes.ensures
+    c.create.ensures.long c.create.ensures.value c.create.ensures.held c.as_step.ensures
 
 pub returns-clause-touched : goal.returns-clause-touched
-returns-clause-touched g c = stepped-counts c.create.result c.stepped.result c.args.touches.now c.create.new.touches c.stepped.ensures c.create.ensures.touched
+returns-clause-touched g c = stepped-counts c.create.result c.as_step.result c.args.touches.now c.create.new.touches c.as_step.ensures c.create.ensures.touched
 
 pub returns-clause-touches : goal.returns-clause-touches
 returns-clause-touches g c = λ rows heights.
@@ -29,4 +29,4 @@ returns-clause-touches g c = λ rows heights.
 pub returns-clause-saves : goal.returns-clause-saves
 returns-clause-saves g c = λ root.
     let X = g.S.X.BlockHash.block32 in let a = g.S.Store.seen c.args.store.now in let b = g.S.Store.seen c.create.new.store in
-    stepped-saves X (IsBadEdited X c.args.site.now.profile b.told root) c.create.result c.stepped.result a b c.stepped.ensures (c.create.ensures.cause root) c.create.ensures.good c.create.ensures.saves
+    stepped-saves X (IsBadEdited X c.args.site.now.profile b.told root) c.create.result c.as_step.result a b c.as_step.ensures (c.create.ensures.cause root) c.create.ensures.good c.create.ensures.saves

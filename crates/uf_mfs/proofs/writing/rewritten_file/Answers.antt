@@ -16,9 +16,9 @@ pub returns-in-Write-clause-gives : goal.returns-in-Write-clause-gives
 returns-in-Write-clause-gives g c = λ N m bytes over.
     let X = g.S.X.BlockHash.block32 in let p = c.args.site.now.profile in let x = c.args.site.now.piece.now in
     let a = g.S.Store.seen c.args.store.now in let b = g.S.Store.seen c.write_at.new.store in
-    subst (λ (what : FileEdit). MakesFile X N p a b (blocks X N p (File m bytes)) m (fitting p (rewritten what x bytes)) c.stepped.result) (sym c.in-Write.is)
-    (laid-file X N p a b c.args.old.now m bytes c.in-Write.how.offset x c.write_at.result c.stepped.result over c.slices_hold_bytes.ensures
-    c.write_at.ensures.long c.write_at.ensures.value c.write_at.ensures.after c.stepped.ensures)
+    subst (λ (what : FileEdit). MakesFile X N p a b (blocks X N p (File m bytes)) m (fitting p (rewritten what x bytes)) c.as_step.result) (sym c.in-Write.is)
+    (laid-file X N p a b c.args.old.now m bytes c.in-Write.how.offset x c.write_at.result c.as_step.result over c.slices_hold_bytes.ensures
+    c.write_at.ensures.long c.write_at.ensures.value c.write_at.ensures.after c.as_step.ensures)
 
 pub returns-in-Write-clause-touches : goal.returns-in-Write-clause-touches
 returns-in-Write-clause-touches g c = λ N rows m bytes heights over.
@@ -34,10 +34,10 @@ returns-in-Write-clause-touches g c = λ N rows m bytes heights over.
 pub returns-in-Truncate-clause-gives : goal.returns-in-Truncate-clause-gives
 returns-in-Truncate-clause-gives g c = λ N m bytes over.
     let X = g.S.X.BlockHash.block32 in let p = c.args.site.now.profile in let x = c.args.site.now.piece.now in
-    let a = g.S.Store.seen c.args.store.now in let b = g.S.Store.seen c.truncate.new.store in let r = c.stepped-in-Truncate.result in
+    let a = g.S.Store.seen c.args.store.now in let b = g.S.Store.seen c.truncate.new.store in let r = c.as_step-in-Truncate.result in
     subst (λ (what : FileEdit). MakesFile X N p a b (blocks X N p (File m bytes)) m (fitting p (rewritten what x bytes)) r) (sym c.in-Truncate.is)
     (cut-file X N p a b c.args.old.now m bytes c.in-Truncate.size c.truncate.result r over
-    c.truncate.ensures.long c.truncate.ensures.value c.truncate.ensures.after c.stepped-in-Truncate.ensures)
+    c.truncate.ensures.long c.truncate.ensures.value c.truncate.ensures.after c.as_step-in-Truncate.ensures)
 
 pub returns-in-Truncate-clause-touches : goal.returns-in-Truncate-clause-touches
 returns-in-Truncate-clause-touches g c = λ N rows m bytes heights over.
@@ -52,8 +52,8 @@ returns-in-Truncate-clause-touches g c = λ N rows m bytes heights over.
     (subst (λ n. IsFileHeight p.chunk p.width m n after) (length-cut bytes size) (tall m (length (cut_to bytes size))))))
 
 pub returns-in-Write-clause-touched : goal.returns-in-Write-clause-touched
-returns-in-Write-clause-touched g c = stepped-counts c.write_at.result c.stepped.result c.args.touches.now c.write_at.new.touches c.stepped.ensures c.write_at.ensures.touched
+returns-in-Write-clause-touched g c = stepped-counts c.write_at.result c.as_step.result c.args.touches.now c.write_at.new.touches c.as_step.ensures c.write_at.ensures.touched
 
 pub returns-in-Truncate-clause-touched : goal.returns-in-Truncate-clause-touched
 returns-in-Truncate-clause-touched g c =
-    stepped-counts c.truncate.result c.stepped-in-Truncate.result c.args.touches.now c.truncate.new.touches c.stepped-in-Truncate.ensures c.truncate.ensures.touched
+    stepped-counts c.truncate.result c.as_step-in-Truncate.result c.args.touches.now c.truncate.new.touches c.as_step-in-Truncate.ensures c.truncate.ensures.touched

@@ -13,13 +13,13 @@ pub returns-clause-answer : goal.returns-clause-answer
 returns-clause-answer g c = λ t p es i s faults clashes.
     let X = g.S.X.BlockHash.block32 in let N = g.N.NameHash.name64 in let now = (g.S.Store.seen c.put_root-edited.new.store).told in
     let names = c.as_slice-names.ensures ∙ c.in_ok-list.ensures ∙ ap (λ (ns : List (List ℕ)). ns ++ c.args.spot.now.name ∷ []) c.as_slice.ensures in
-    subst (λ (ns : List (List ℕ)). MovesTo X N now p ns c.settled.new.self (allowed X N p (edited_at (put_over t) ns es)) c.settled.result) names
-    (moves-held-with X N (g.S.Store.seen c.args.store.now) (g.S.Store.seen c.put_root-edited.new.store) c.as_slice-names.result.now c.args.self.now c.settled.new.self c.args.entry.now t (edited_at (put_over t) c.as_slice-names.result.now)
-    c.put_root-edited.result c.settled.result c.put_root-edited.ensures.saves.good c.settled.ensures.settles (c.put_root-edited.ensures.edits t) p es i s faults clashes)
+    subst (λ (ns : List (List ℕ)). MovesTo X N now p ns c.take_over.new.self (allowed X N p (edited_at (put_over t) ns es)) c.take_over.result) names
+    (moves-held-with X N (g.S.Store.seen c.args.store.now) (g.S.Store.seen c.put_root-edited.new.store) c.as_slice-names.result.now c.args.self.now c.take_over.new.self c.args.entry.now t (edited_at (put_over t) c.as_slice-names.result.now)
+    c.put_root-edited.result c.take_over.result c.put_root-edited.ensures.saves.good c.take_over.ensures.settles (c.put_root-edited.ensures.edits t) p es i s faults clashes)
 
 pub returns-clause-missing : goal.returns-clause-missing
 returns-clause-missing g c = λ es o.
     let X = g.S.X.BlockHash.block32 in let N = g.N.NameHash.name64 in let p = c.args.self.now.profile in let told = (g.S.Store.seen c.args.store.now).told in
     let names = c.as_slice-names.ensures ∙ c.in_ok-list.ensures ∙ ap (λ (ns : List (List ℕ)). ns ++ c.args.spot.now.name ∷ []) c.as_slice.ensures in
-    settled-misses told (put_needs X N p (spot_names c.args.spot.now) (Dir es)) c.as_slice-names.result.now c.put_root-edited.result c.args.self.now c.settled.new.self c.settled.result c.settled.ensures.settles
+    settled-misses told (put_needs X N p (spot_names c.args.spot.now) (Dir es)) c.as_slice-names.result.now c.put_root-edited.result c.args.self.now c.take_over.new.self c.take_over.result c.take_over.ensures.settles
     (subst (λ (ns : List (List ℕ)). MissesOnly told (put_needs X N p ns (Dir es)) (stop_fault c.put_root-edited.result)) names (c.put_root-edited.ensures.missing es o))

@@ -16,15 +16,15 @@ pub returns-clause-lost : goal.returns-clause-lost
 returns-clause-lost g c =
     let X = g.S.X.BlockHash.block32 in let N = g.N.NameHash.name64 in let p = c.args.self.now.profile in let names = c.as_slice-names.result.now in
     let a = g.S.Store.seen c.args.store.now in let b = g.S.Store.seen c.edited_root-edited.new.store in
-    subst (λ (ns : List (List ℕ)). MovesTree X N a b [] c.args.self.now c.settled.new.self ns (λ p es. removed c.args.recursive ns es) c.settled.result) c.as_slice-names.ensures
-    (moves-tree X N a b names c.args.self.now c.settled.new.self (λ p es. removed c.args.recursive names es) c.edited_root-edited.result c.settled.result c.settled.ensures.settles
+    subst (λ (ns : List (List ℕ)). MovesTree X N a b [] c.args.self.now c.take_over.new.self ns (λ p es. removed c.args.recursive ns es) c.take_over.result) c.as_slice-names.ensures
+    (moves-tree X N a b names c.args.self.now c.take_over.new.self (λ p es. removed c.args.recursive names es) c.edited_root-edited.result c.take_over.result c.take_over.ensures.settles
     (λ es o. removed-edits X N (record { size = g.met.S.X.BlockHash.size; are_bytes = g.met.S.X.BlockHash.are_bytes }) g.met.N.NameHash.fits p o.plan.profile a.told b.told _ c.args.recursive names es c.edited_root-edited.result o.plan.tree o.plan.planned
     (subst (λ w. EditsAfter X N a.told b.told (blocks X N p (Dir es)) p (allowed X N p w) c.edited_root-edited.result) (removes-at p c.args.recursive names es) (c.edited_root-edited.ensures.edits (Dir (Nothing none)) tt es o))))
 
 pub returns-clause-answer : goal.returns-clause-answer
 returns-clause-answer g c = λ p es s faults clashes.
     let X = g.S.X.BlockHash.block32 in let N = g.N.NameHash.name64 in
-    moves-held X N (g.S.Store.seen c.args.store.now) (g.S.Store.seen c.edited_root-edited.new.store) c.args.path.now.names c.args.self.now c.settled.new.self (λ p es. removed c.args.recursive c.args.path.now.names es) c.settled.result c.edited_root-edited.ensures.saves.good
+    moves-held X N (g.S.Store.seen c.args.store.now) (g.S.Store.seen c.edited_root-edited.new.store) c.args.path.now.names c.args.self.now c.take_over.new.self (λ p es. removed c.args.recursive c.args.path.now.names es) c.take_over.result c.edited_root-edited.ensures.saves.good
     (returns-clause-lost g c) p es s faults clashes
 
 pub returns-clause-touches : goal.returns-clause-touches

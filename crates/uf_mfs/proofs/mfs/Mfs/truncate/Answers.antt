@@ -15,13 +15,13 @@ pub returns-clause-lost : goal.returns-clause-lost
 returns-clause-lost g c =
     let X = g.S.X.BlockHash.block32 in let N = g.N.NameHash.name64 in
     let a = g.S.Store.seen c.args.store.now in let b = g.S.Store.seen c.edited_root-edited.new.store in
-    subst (λ (ns : List (List ℕ)). MovesTree X N a b [] c.args.self.now c.settled.new.self ns (λ p es. allowed X N p (truncated c.args.length ns es)) c.settled.result) c.as_slice-names.ensures
-    (moves-tree X N a b c.as_slice-names.result.now c.args.self.now c.settled.new.self (λ p es. allowed X N p (truncated c.args.length c.as_slice-names.result.now es)) c.edited_root-edited.result c.settled.result c.settled.ensures.settles (rewritten-edits X N c.args.self.now.profile a b c.args.self.now.root (Truncate c.args.length) [] c.as_slice-names.result.now c.edited_root-edited.result (c.edited_root-edited.ensures.edits (Dir (Nothing none)) tt)))
+    subst (λ (ns : List (List ℕ)). MovesTree X N a b [] c.args.self.now c.take_over.new.self ns (λ p es. allowed X N p (truncated c.args.length ns es)) c.take_over.result) c.as_slice-names.ensures
+    (moves-tree X N a b c.as_slice-names.result.now c.args.self.now c.take_over.new.self (λ p es. allowed X N p (truncated c.args.length c.as_slice-names.result.now es)) c.edited_root-edited.result c.take_over.result c.take_over.ensures.settles (rewritten-edits X N c.args.self.now.profile a b c.args.self.now.root (Truncate c.args.length) [] c.as_slice-names.result.now c.edited_root-edited.result (c.edited_root-edited.ensures.edits (Dir (Nothing none)) tt)))
 
 pub returns-clause-answer : goal.returns-clause-answer
 returns-clause-answer g c = λ p es s faults clashes.
     let X = g.S.X.BlockHash.block32 in let N = g.N.NameHash.name64 in
-    moves-held X N (g.S.Store.seen c.args.store.now) (g.S.Store.seen c.edited_root-edited.new.store) c.args.path.now.names c.args.self.now c.settled.new.self (λ p es. allowed X N p (truncated c.args.length c.args.path.now.names es)) c.settled.result c.edited_root-edited.ensures.saves.good
+    moves-held X N (g.S.Store.seen c.args.store.now) (g.S.Store.seen c.edited_root-edited.new.store) c.args.path.now.names c.args.self.now c.take_over.new.self (λ p es. allowed X N p (truncated c.args.length c.args.path.now.names es)) c.take_over.result c.edited_root-edited.ensures.saves.good
     (returns-clause-lost g c) p es s faults clashes
 
 pub returns-clause-touches : goal.returns-clause-touches

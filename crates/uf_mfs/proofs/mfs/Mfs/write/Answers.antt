@@ -18,13 +18,13 @@ pub returns-clause-lost : goal.returns-clause-lost
 returns-clause-lost g c =
     let X = g.S.X.BlockHash.block32 in let N = g.N.NameHash.name64 in
     let a = g.S.Store.seen c.args.store.now in let b = g.S.Store.seen c.edited_root-edited.new.store in
-    subst (λ (ns : List (List ℕ)). MovesTree X N a b [] c.args.self.now c.settled.new.self ns (λ p es. allowed X N p (written c.args.how.now c.args.piece.now ns es)) c.settled.result) c.as_slice-names.ensures
-    (moves-tree X N a b c.as_slice-names.result.now c.args.self.now c.settled.new.self (λ p es. allowed X N p (written c.args.how.now c.args.piece.now c.as_slice-names.result.now es)) c.edited_root-edited.result c.settled.result c.settled.ensures.settles (rewritten-edits X N c.args.self.now.profile a b c.args.self.now.root (Write c.args.how.now) c.args.piece.now c.as_slice-names.result.now c.edited_root-edited.result (c.edited_root-edited.ensures.edits (Dir (Nothing none)) tt)))
+    subst (λ (ns : List (List ℕ)). MovesTree X N a b [] c.args.self.now c.take_over.new.self ns (λ p es. allowed X N p (written c.args.how.now c.args.piece.now ns es)) c.take_over.result) c.as_slice-names.ensures
+    (moves-tree X N a b c.as_slice-names.result.now c.args.self.now c.take_over.new.self (λ p es. allowed X N p (written c.args.how.now c.args.piece.now c.as_slice-names.result.now es)) c.edited_root-edited.result c.take_over.result c.take_over.ensures.settles (rewritten-edits X N c.args.self.now.profile a b c.args.self.now.root (Write c.args.how.now) c.args.piece.now c.as_slice-names.result.now c.edited_root-edited.result (c.edited_root-edited.ensures.edits (Dir (Nothing none)) tt)))
 
 pub returns-clause-answer : goal.returns-clause-answer
 returns-clause-answer g c = λ p es s faults clashes.
     let X = g.S.X.BlockHash.block32 in let N = g.N.NameHash.name64 in
-    moves-held X N (g.S.Store.seen c.args.store.now) (g.S.Store.seen c.edited_root-edited.new.store) c.args.path.now.names c.args.self.now c.settled.new.self (λ p es. allowed X N p (written c.args.how.now c.args.piece.now c.args.path.now.names es)) c.settled.result c.edited_root-edited.ensures.saves.good
+    moves-held X N (g.S.Store.seen c.args.store.now) (g.S.Store.seen c.edited_root-edited.new.store) c.args.path.now.names c.args.self.now c.take_over.new.self (λ p es. allowed X N p (written c.args.how.now c.args.piece.now c.args.path.now.names es)) c.take_over.result c.edited_root-edited.ensures.saves.good
     (returns-clause-lost g c) p es s faults clashes
 
 pub returns-clause-touches : goal.returns-clause-touches
@@ -37,4 +37,4 @@ pub returns-clause-idle : goal.returns-clause-idle
 returns-clause-idle g c = λ p es m bytes s stood empty keep there.
     let left : leaves_bytes (Write c.args.how.now) c.args.piece.now ≡ true = subst (λ (x : List ℕ). leaves_bytes (Write c.args.how.now) x ≡ true) (sym empty) (ap not keep) in
     let done = c.edited_root-edited.ensures.idle p es (File m bytes) s.root stood (subst (λ (ns : List (List ℕ)). at 0 ns (Dir es) ≡ Ok (File m bytes)) (sym c.as_slice-names.ensures) there) left in
-    (done.0, settled-same c.as_slice-names.result.now c.edited_root-edited.result c.args.self.now c.settled.new.self c.settled.result c.settled.ensures.settles c.settled.ensures.refused done.1)
+    (done.0, settled-same c.as_slice-names.result.now c.edited_root-edited.result c.args.self.now c.take_over.new.self c.take_over.result c.take_over.ensures.settles c.take_over.ensures.stays.0 done.1)

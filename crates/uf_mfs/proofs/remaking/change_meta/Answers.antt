@@ -16,7 +16,7 @@ use Rattle.uf_mfs.proofs.Filling.{stood-before}
 use Rattle.uf_mfs.proofs.Needed.{root-of-among}
 use Rattle.uf_mfs.proofs.Remade.{remade-same, with-own}
 use Rattle.uf_mfs.proofs.Renewing.{lost-remade, stat-meta, stat-saves, thing-itself, unseen-one}
-use Rattle.uf_mfs.proofs.remaking.remade.Goals as goal
+use Rattle.uf_mfs.proofs.remaking.change_meta.Goals as goal
 
 pub returns-in_err-stat-clause-gives : goal.returns-in_err-stat-clause-gives
 returns-in_err-stat-clause-gives g c = λ t thing stays calm.
@@ -48,7 +48,7 @@ returns-then-eq-clause-saves g c = λ root required.
 pub returns-in_err-new-clause-gives : goal.returns-in_err-new-clause-gives
 returns-in_err-new-clause-gives g c = λ t thing stays calm.
     let X = g.S.X.BlockHash.block32 in let N = g.N.NameHash.name64 in let p = c.args.p.now in let stat = c.in_ok-stat.stat in let meta = c.meta_after-meta.result in
-    let a = g.S.Store.seen c.args.store.now in let b = g.S.Store.seen c.stat_of.new.store in let d = g.S.Store.seen c.renewed.new.store in let what = c.args.what in
+    let a = g.S.Store.seen c.args.store.now in let b = g.S.Store.seen c.stat_of.new.store in let d = g.S.Store.seen c.set_thing_meta.new.store in let what = c.args.what in
     let reads = c.in_ok-stat.ensures.reads in let s = c.in_err-new.field-0.0 in
     let after = c.in_err-new.ensures.saves (entry_in c.args.thing).cid (thing-itself X N p c.args.thing) in
     let out = err_from_is_err_and c.from_residual-in_err-new.result c.from_residual-in_err-new.ensures.1 in
@@ -66,7 +66,7 @@ returns-in_err-new-clause-saves g c = λ root required.
 pub returns-in_err-new-clause-idle : goal.returns-in_err-new-clause-idle
 returns-in_err-new-clause-idle g c = λ p t thing stood left.
     let X = g.S.X.BlockHash.block32 in let N = g.N.NameHash.name64 in let what = c.args.what in let stat = c.in_ok-stat.stat in let meta = c.meta_after-meta.result in
-    let a = g.S.Store.seen c.args.store.now in let b = g.S.Store.seen c.stat_of.new.store in let d = g.S.Store.seen c.renewed.new.store in let reads = c.in_ok-stat.ensures.reads in
+    let a = g.S.Store.seen c.args.store.now in let b = g.S.Store.seen c.stat_of.new.store in let d = g.S.Store.seen c.set_thing_meta.new.store in let reads = c.in_ok-stat.ensures.reads in
     let after = c.in_err-new.ensures.saves (entry_in c.args.thing).cid (thing-itself X N c.args.p.now c.args.thing) in
     let f = stat-meta X N p a.told t c.args.thing stat thing (c.in_ok-stat.ensures.stat p t thing (stood-before X _ _ _ a b d (reads-saves reads) after stood)) in
     let is : meta ≡ meta_after what (meta_of t) = c.meta_after-meta.ensures.after ∙ ap (meta_after what) (c.good.ensures.same f.1 ∙ f.0) in
@@ -75,7 +75,7 @@ returns-in_err-new-clause-idle g c = λ p t thing stood left.
 pub returns-clause-gives : goal.returns-clause-gives
 returns-clause-gives g c = λ t thing stays calm.
     let X = g.S.X.BlockHash.block32 in let N = g.N.NameHash.name64 in let p = c.args.p.now in let stat = c.in_ok-stat.stat in let meta = c.meta_after-meta.result in
-    let a = g.S.Store.seen c.args.store.now in let b = g.S.Store.seen c.stat_of.new.store in let d = g.S.Store.seen c.renewed.new.store in let what = c.args.what in
+    let a = g.S.Store.seen c.args.store.now in let b = g.S.Store.seen c.stat_of.new.store in let d = g.S.Store.seen c.set_thing_meta.new.store in let what = c.args.what in
     let reads = c.in_ok-stat.ensures.reads in let new = c.in_ok-new.new in
     let after = c.in_ok-new.ensures.saves (entry_in c.args.thing).cid (thing-itself X N p c.args.thing) in
     let f = stat-meta X N p a.told t c.args.thing stat thing (c.in_ok-stat.ensures.stat p t thing (stood-before X _ _ _ a b d (reads-saves reads) after calm.faults)) in
@@ -90,7 +90,7 @@ returns-clause-saves g c = λ root required. saves-saves (reads-saves c.in_ok-st
 pub returns-clause-idle : goal.returns-clause-idle
 returns-clause-idle g c = λ p t thing stood left.
     let X = g.S.X.BlockHash.block32 in let N = g.N.NameHash.name64 in let what = c.args.what in let stat = c.in_ok-stat.stat in let meta = c.meta_after-meta.result in
-    let a = g.S.Store.seen c.args.store.now in let b = g.S.Store.seen c.stat_of.new.store in let d = g.S.Store.seen c.renewed.new.store in let reads = c.in_ok-stat.ensures.reads in
+    let a = g.S.Store.seen c.args.store.now in let b = g.S.Store.seen c.stat_of.new.store in let d = g.S.Store.seen c.set_thing_meta.new.store in let reads = c.in_ok-stat.ensures.reads in
     let after = c.in_ok-new.ensures.saves (entry_in c.args.thing).cid (thing-itself X N c.args.p.now c.args.thing) in
     let f = stat-meta X N p a.told t c.args.thing stat thing (c.in_ok-stat.ensures.stat p t thing (stood-before X _ _ _ a b d (reads-saves reads) after stood)) in
     let is : meta ≡ meta_after what (meta_of t) = c.meta_after-meta.ensures.after ∙ ap (meta_after what) (c.good.ensures.same f.1 ∙ f.0) in

@@ -17,7 +17,7 @@ use Rattle.uf_plain.specs.Rules.{allowed}
 use Rattle.uf_mfs.specs.Answers.{EditsAfter}
 use Rattle.uf_mfs.specs.Touches.{CountsUp, crossings_of}
 use Rattle.uf_mfs.proofs.Removing.{makes-at}
-use Rattle.uf_mfs.proofs.mfs.Mfs.made_root.Goals as goal
+use Rattle.uf_mfs.proofs.mfs.Mfs.root_with_dirs.Goals as goal
 
 pub returns-else-parents-clause-edits : goal.returns-else-parents-clause-edits
 returns-else-parents-clause-edits g c = λ es o.

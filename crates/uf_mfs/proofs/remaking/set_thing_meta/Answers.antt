@@ -3,7 +3,7 @@ use Rattle.std.proofs.lemmas.Result.{err_from_is_err_and}
 use Rattle.uf_mfs.specs.declared.fault.Stop.TheVariants as stop
 use Rattle.uf_mfs.specs.Bad.{IsRequired}
 use Rattle.uf_mfs.proofs.Renewing.{file-made, file-renewed, file-stopped, folder-made, folder-renewed, folder-saves, folder-stopped}
-use Rattle.uf_mfs.proofs.remaking.renewed.Goals as goal
+use Rattle.uf_mfs.proofs.remaking.set_thing_meta.Goals as goal
 
 pub returns-in_err-new-in-File-clause-gives : goal.returns-in_err-new-in-File-clause-gives
 returns-in_err-new-in-File-clause-gives g c = λ t thing stays calm.
