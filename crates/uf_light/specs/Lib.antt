@@ -1,4 +1,5 @@
 pub mod Accepting
+pub mod Along
 pub mod Answers
 pub mod Bad
 pub mod Checking

@@ -1,22 +1,13 @@
 //! Light proofs checked.
-ghost use Rattle.std.specs.Prelude.{◌≡◌, ◌⊎◌, ◌<◌, ◌≤◌, ◌^◌, IfErr, List, Some, ℕ, length};
+ghost use Rattle.std.specs.Prelude.{◌≡◌, ◌<◌, ◌≤◌, ◌^◌, IfErr, List, Some, ℕ, length};
 ghost use Rattle.uf_edge.specs.Counts.{Counts, Stood};
-ghost use Rattle.uf_edge.specs.Streams.{AppendsPrefix};
 ghost use Rattle.uf_car.specs.Exporting.{WritesSome};
 ghost use Rattle.uf_car.specs.Reading.{car_read};
-ghost use Rattle.uf_tree.specs.declared.profile.Profile.{Profile};
-ghost use Rattle.uf_tree.specs.Tree.{Tree};
-ghost use Rattle.uf_tree.specs.TreePlan.{blocks as blocks_of};
-ghost use Rattle.uf_plain.specs.Edits.{at};
-ghost use Rattle.uf_plain.specs.Needs.{needs_at};
 ghost use Rattle.uf_light.specs.Accepting.{IsProof};
-ghost use Rattle.uf_light.specs.Answers.{ClashesWithPlan, CountsSink, IsOwnFault, OpensAs};
-ghost use Rattle.uf_light.specs.Answers.{file_needs, is_light_read, is_light_sink, opened};
+ghost use Rattle.uf_light.specs.Answers.{CountsSink, IsOwnFault, OpensAs, is_light_read, is_light_sink, opened};
 ghost use Rattle.uf_light.specs.Checking.{keeping_fault as fault_of_keeping, reading_fault as fault_of_reading};
-ghost use Rattle.uf_light.specs.Light.{HasHeight, light_says, said_bytes};
-ghost use Rattle.uf_light.specs.Sections.{AnswersTree, IsOkOrMemory, ShownBySections};
-ghost use Rattle.uf_light.specs.Sending.{ComesFirst};
-ghost use Rattle.uf_light.specs.Standing.{IsTreeAt};
+ghost use Rattle.uf_light.specs.Sections.{IsOkOrMemory, ShownBySections};
+ghost use Rattle.uf_light.specs.Along.{ChecksFirst, ChecksPath, ChecksPrefix};
 
 use crate::opening::open;
 use crate::sending::show;
@@ -28,8 +19,8 @@ use uf_edge::{Sink, Source};
 use uf_murmur::NameHash;
 use uf_store::{MemStore, Steps, StoreFault};
 
-/// Reads a CAR of at most `limit` bytes as the proof of what is at a path below a root, and writes that: the bytes of a
-/// file, or, with `absent`, a line that says that nothing is there. It answers how many bytes it wrote. No store is
+/// Reads a CAR of at most `limit` bytes as the proof of what is at a path below a root, and writes that: the bytes of
+/// a file, or, with `absent`, a line that says that nothing is there. It answers how many bytes it wrote. No store is
 /// asked, and sections that aren't needed are accepted. A file is read whole before its first byte is written.
 pub fn check<X: BlockHash, N: NameHash, I: Source, O: Sink, L: Ledger>(
     alloc: Global,
@@ -46,12 +37,8 @@ pub fn check<X: BlockHash, N: NameHash, I: Source, O: Sink, L: Ledger>(
         → OpensAs (opened asked.now.root (car_read X.block32 limit bytes)) result }
 
     // Whatever tree has this root: it is the tree's answer, or a block of the tree's plan and a section clash.
-    ensures tree { (bytes : List ℕ) (p : Profile) (t : Tree) (height : ℕ) → I.left input.old ≡ Some bytes
-        → IsTreeAt X.block32 N.name64 p asked.now.root t → HasHeight p height (at 0 asked.now.names t)
-        → AnswersTree X.block32 (car_read X.block32 limit bytes).sections (blocks_of X.block32 N.name64 p t)
-        (needs_at X.block32 N.name64 p (file_needs X.block32 p height) asked.now.names t)
-        (light_says asked.now.absent asked.now.names (at 0 asked.now.names t)) result
-        (O.holds out.old) (O.holds out.new) }
+    ensures tree { ChecksPath X.block32 N.name64 asked.now limit (I.left input.old) result (O.holds out.old)
+        (O.holds out.new) }
 
     // The proof that `prove` writes of a tree with this root is accepted, where nothing fails meanwhile.
     ensures accepts { (said bytes : List ℕ)
@@ -60,18 +47,14 @@ pub fn check<X: BlockHash, N: NameHash, I: Source, O: Sink, L: Ledger>(
         → Stood (O.faults out.old) (O.faults out.new) → IsOkOrMemory result }
 
     // Whatever fails, a prefix of the tree's answer was written and nothing else, unless two such blocks clash.
-    ensures prefix { (bytes : List ℕ) (p : Profile) (t : Tree) (height : ℕ) → I.left input.old ≡ Some bytes
-        → IsTreeAt X.block32 N.name64 p asked.now.root t → HasHeight p height (at 0 asked.now.names t)
-        → ClashesWithPlan X.block32 (blocks_of X.block32 N.name64 p t) (car_read X.block32 limit bytes).sections
-        ⊎ AppendsPrefix (said_bytes (light_says asked.now.absent asked.now.names (at 0 asked.now.names t)))
-        (O.holds out.old) (O.holds out.new) }
+    ensures prefix { ChecksPrefix X.block32 N.name64 asked.now limit (I.left input.old) (O.holds out.old)
+        (O.holds out.new) }
     ensures some { WritesSome (O.holds out.old) (O.holds out.new) }
 
-    // All is read before anything is written: a refusal, and a block that is missing or bad, leaves the sink as it was.
-    ensures first { (bytes : List ℕ) (p : Profile) (t : Tree) (height : ℕ) → I.left input.old ≡ Some bytes
-        → IsTreeAt X.block32 N.name64 p asked.now.root t → HasHeight p height (at 0 asked.now.names t)
-        → ClashesWithPlan X.block32 (blocks_of X.block32 N.name64 p t) (car_read X.block32 limit bytes).sections
-        ⊎ ComesFirst result (O.holds out.old) (O.holds out.new) }
+    // All is read before anything is written: a refusal, and a block that is missing or bad, leaves the sink as it
+    // was.
+    ensures first { ChecksFirst X.block32 N.name64 asked.now limit (I.left input.old) result (O.holds out.old)
+        (O.holds out.new) }
 
     // Whatever the CAR has: each fault of the store that it is read into is shown by its sections.
     ensures shown { (bytes : List ℕ) → I.left input.old ≡ Some bytes
@@ -101,8 +84,8 @@ pub fn check<X: BlockHash, N: NameHash, I: Source, O: Sink, L: Ledger>(
     }
 }
 
-// A fault of the store where the sections are kept: two of them clash. Such a store holds what it was given and doesn't
-// fail, so all else is out of memory.
+// A fault of the store where the sections are kept: two of them clash. Such a store holds what it was given and
+// doesn't fail, so all else is out of memory.
 fn keeping_fault(fault: LightFault) -> LightFault
     ensures { result ≡ fault_of_keeping fault }
 {

@@ -1,15 +1,10 @@
 //! The CIDs of the blocks that decide a path.
-ghost use Rattle.std.specs.Prelude.{◌≡◌, ◌+◌, ◌<◌, ◌^◌, ◌++◌, IfOk, IfSome, List, ℕ, length, OnOk};
-ghost use Rattle.uf_edge.specs.Counts.{Stood};
+ghost use Rattle.std.specs.Prelude.{◌≡◌, ◌+◌, ◌<◌, ◌^◌, ◌++◌, IfOk, IfSome, length, OnOk};
 ghost use Rattle.uf_store.specs.Calls.{OnlyReads};
 ghost use Rattle.uf_store.specs.Faults.{fault_in};
-ghost use Rattle.uf_tree.specs.declared.profile.Profile.{Profile};
-ghost use Rattle.uf_tree.specs.Tree.{Dir, Entries, Tree};
-ghost use Rattle.uf_plain.specs.Edits.{at};
 ghost use Rattle.uf_light.specs.Bad.{IsBadOnPath, IsBadUnder, IsRequired};
-ghost use Rattle.uf_light.specs.Gathered.{Gathers, GathersMember};
-ghost use Rattle.uf_light.specs.Standing.{IsAgreedAt, IsAgreedThing};
 ghost use Rattle.uf_light.specs.Touches.{CountsUp};
+ghost use Rattle.uf_light.specs.Along.{GathersAlong, GathersUnder};
 
 use crate::looking::thing_of;
 use crate::met::PathEnd;
@@ -34,11 +29,8 @@ pub fn gather<S: Store, N: NameHash, L: Ledger>(
     touches: &mut Steps<L>,
 ) -> Result<PathEnd, StoreFault>
     requires { led + length names.now < 2 ^ 32 }
-    ensures gathers { (p : Profile) (t : Tree)
-        → IsAgreedThing S.X.block32 N.name64 (S.seen store.old).told p t thing
-        → Stood (S.seen store.old).faults (S.seen store.new).faults
-        → Gathers S.X.block32 N.name64 (S.seen store.old).told p names.now t (at led names.now t) cids.old cids.new
-        result }
+    ensures gathers { GathersAlong S.X.block32 N.name64 led names.now thing cids.old cids.new (S.seen store.old)
+        (S.seen store.new) result }
     ensures reads { OnlyReads S.X.block32 (IsBadUnder S.X.block32 N.name64 thing) (fault_in result)
         (S.seen store.old) (S.seen store.new) }
     ensures touched { CountsUp (fault_in result) touches.old touches.new }
@@ -64,10 +56,8 @@ fn gather_member<S: Store, N: NameHash, L: Ledger>(
     cids: &mut Cids,
     touches: &mut Steps<L>,
 ) -> Result<Option<TypedEntry>, StoreFault>
-    ensures gathers { (p : Profile) (es : Entries)
-        → IsAgreedAt S.X.block32 N.name64 (S.seen store.old).told p folder.now.cid (Dir es)
-        → Stood (S.seen store.old).faults (S.seen store.new).faults
-        → GathersMember S.X.block32 N.name64 (S.seen store.old).told p name.now es cids.old cids.new result }
+    ensures gathers { GathersUnder S.X.block32 N.name64 folder.now.cid name.now cids.old cids.new (S.seen store.old)
+        (S.seen store.new) result }
     ensures reads { OnlyReads S.X.block32 (IsBadOnPath S.X.block32 N.name64 folder.now.cid) (fault_in result)
         (S.seen store.old) (S.seen store.new) }
     ensures required { IfOk result (λ found. IfSome found (IsRequired S.X.block32 folder.now.cid)) }

@@ -1,22 +1,14 @@
 //! The CIDs of a file's blocks.
-ghost use Rattle.std.specs.Prelude.{◌≡◌, ◌<◌, ℕ, List, [], ◌∷◌, ◌++◌, None, OnOk};
-ghost use Rattle.uf_edge.specs.Counts.{Stood};
+ghost use Rattle.std.specs.Prelude.{◌≡◌, ◌<◌, ◌++◌, None, OnOk};
 ghost use Rattle.uf_store.specs.Calls.{OnlyReads};
 ghost use Rattle.uf_store.specs.Faults.{Answers, fault_in};
-ghost use Rattle.uf_store.specs.Keeping.{Agrees};
-ghost use Rattle.uf_store.specs.Lost.{FindsOver};
 ghost use Rattle.uf_tree.specs.Codecs.{Reads};
-ghost use Rattle.uf_tree.specs.FilePlan.{file_plan};
-ghost use Rattle.uf_tree.specs.FileSub.{whole_blocks};
-ghost use Rattle.uf_tree.specs.Roots.{root_over};
-ghost use Rattle.uf_tree.specs.declared.meta.Meta.{Meta as TheMeta};
-ghost use Rattle.uf_tree.specs.declared.profile.Profile.{Profile};
 ghost use Rattle.uf_fileread.specs.Bad.{IsBadInFile};
 ghost use Rattle.uf_fileread.specs.Parts.{parts_block};
-ghost use Rattle.uf_fileread.specs.Ranges.{IsFile};
-ghost use Rattle.uf_fileread.specs.Sending.{IsFilePart, LoadsParts, MayStand};
-ghost use Rattle.uf_light.specs.FileCids.{IsBadInSome, below, cids_in, cids_of};
+ghost use Rattle.uf_fileread.specs.Sending.{LoadsParts, MayStand};
+ghost use Rattle.uf_light.specs.FileCids.{IsBadInSome, cids_in};
 ghost use Rattle.uf_light.specs.Touches.{CountsUp};
+ghost use Rattle.uf_light.specs.Along.{FindsFileCids, FindsPartsBelow};
 
 use crate::due::CidStack;
 use std::alloc::Global;
@@ -27,20 +19,15 @@ use uf_store::{Role, Steps, Store, StoreFault, need};
 use uf_tree::{Entry, Part, Parts};
 
 // The CIDs of the blocks of a file: each node before the blocks below it, these from left to right, and each as
-// often as the file has it (UnixFS v1, "File"). Each block is found. As many as a CAR can't have are more than there is
-// memory for.
+// often as the file has it (UnixFS v1, "File"). Each block is found. As many as a CAR can't have are more than there
+// is memory for.
 pub fn file_cids<S: Store, L: Ledger>(
     alloc: Global,
     store: &mut S,
     entry: &Entry,
     touches: &mut Steps<L>,
 ) -> Result<Cids, StoreFault>
-    ensures value { (p : Profile) (m : TheMeta) (bytes : List ℕ) (height : ℕ)
-        → IsFile S.X.block32 p m bytes entry.now.cid height
-        → Agrees (S.seen store.old).told (file_plan S.X.block32 p m bytes).blocks
-        → Stood (S.seen store.old).faults (S.seen store.new).faults
-        → FindsOver (S.seen store.old).told (whole_blocks S.X.block32 p.chunk p.width m height bytes)
-        (cids_of (whole_blocks S.X.block32 p.chunk p.width m height bytes)) result }
+    ensures value { FindsFileCids S.X.block32 entry.now.cid (S.seen store.old) (S.seen store.new) result }
     ensures reads { OnlyReads S.X.block32 (IsBadInSome (S.seen store.old).told) (fault_in result)
         (S.seen store.old) (S.seen store.new) }
     ensures touched { CountsUp (fault_in result) touches.old touches.new }
@@ -79,12 +66,7 @@ fn parts_below<S: Store, L: Ledger>(
     cid: &Cid,
     touches: &mut Steps<L>,
 ) -> Result<Parts, StoreFault>
-    ensures parts { (p : Profile) (m : TheMeta) (k : ℕ) (bytes : List ℕ)
-        → IsFilePart S.X.block32 p 22 m k cid.now None bytes
-        → Agrees (S.seen store.old).told (root_over S.X.block32 p.chunk p.width m k bytes ∷ [])
-        → Stood (S.seen store.old).faults (S.seen store.new).faults
-        → FindsOver (S.seen store.old).told (root_over S.X.block32 p.chunk p.width m k bytes ∷ [])
-        (below S.X.block32 p k bytes) result }
+    ensures parts { FindsPartsBelow S.X.block32 cid.now (S.seen store.old) (S.seen store.new) result }
     ensures reads { OnlyReads S.X.block32 (IsBadInFile (S.seen store.old).told cid.now) (fault_in result)
         (S.seen store.old) (S.seen store.new) }
     ensures touched { touches.old < touches.new }

@@ -1,17 +1,12 @@
 //! What a path leads to, looked up from its root.
-ghost use Rattle.std.specs.Prelude.{◌≡◌, ◌+◌, ◌<◌, ◌^◌, IfOk, IfSome, List, ℕ, Ok, length};
+ghost use Rattle.std.specs.Prelude.{◌+◌, ◌<◌, ◌^◌, IfOk, IfSome, Ok, length};
 ghost use Rattle.uf_cid.specs.declared.cid.Cid.{Cid as TheCid};
 ghost use Rattle.uf_dir.specs.Bad.{IsBadRoot};
-ghost use Rattle.uf_edge.specs.Counts.{Stood};
 ghost use Rattle.uf_store.specs.Calls.{OnlyReads};
 ghost use Rattle.uf_store.specs.Faults.{fault_in};
-ghost use Rattle.uf_tree.specs.declared.profile.Profile.{Profile};
-ghost use Rattle.uf_tree.specs.Tree.{Dir, Entries, Tree};
-ghost use Rattle.uf_plain.specs.Edits.{at, child};
-ghost use Rattle.uf_plain.specs.Needs.{member_needs, root_of, way};
 ghost use Rattle.uf_light.specs.Bad.{IsBadOnPath, IsBadUnder, IsRequired};
-ghost use Rattle.uf_light.specs.Standing.{IsAgreedAt, IsAgreedMember, IsAgreedThing, IsMet, LosesOr};
 ghost use Rattle.uf_light.specs.Touches.{CountsUp};
+ghost use Rattle.uf_light.specs.Along.{FindsUnder, FindsMet, LooksOn};
 
 use crate::met::PathEnd;
 use crate::thing::TypedEntry;
@@ -32,11 +27,7 @@ pub fn look<S: Store, N: NameHash, L: Ledger>(
     touches: &mut Steps<L>,
 ) -> Result<PathEnd, StoreFault>
     requires { led + length names.now < 2 ^ 32 }
-    ensures looks { (p : Profile) (t : Tree)
-        → IsAgreedThing S.X.block32 N.name64 (S.seen store.old).told p t thing
-        → Stood (S.seen store.old).faults (S.seen store.new).faults
-        → LosesOr S.X.block32 N.name64 (S.seen store.old).told p (way S.X.block32 N.name64 p names.now t)
-        (IsMet S.X.block32 N.name64 (S.seen store.old).told p (at led names.now t)) result }
+    ensures looks { LooksOn S.X.block32 N.name64 led names.now thing (S.seen store.old) (S.seen store.new) result }
     ensures reads { OnlyReads S.X.block32 (IsBadUnder S.X.block32 N.name64 thing) (fault_in result)
         (S.seen store.old) (S.seen store.new) }
 {
@@ -60,11 +51,8 @@ pub fn member<S: Store, N: NameHash, L: Ledger>(
     name: &Name,
     touches: &mut Steps<L>,
 ) -> Result<Option<TypedEntry>, StoreFault>
-    ensures member { (p : Profile) (es : Entries)
-        → IsAgreedAt S.X.block32 N.name64 (S.seen store.old).told p folder.now.cid (Dir es)
-        → Stood (S.seen store.old).faults (S.seen store.new).faults
-        → LosesOr S.X.block32 N.name64 (S.seen store.old).told p (member_needs S.X.block32 N.name64 p name.now es)
-        (IsAgreedMember S.X.block32 N.name64 (S.seen store.old).told p (child name.now es)) result }
+    ensures member { FindsUnder S.X.block32 N.name64 folder.now.cid name.now (S.seen store.old) (S.seen store.new)
+        result }
     ensures reads { OnlyReads S.X.block32 (IsBadOnPath S.X.block32 N.name64 folder.now.cid) (fault_in result)
         (S.seen store.old) (S.seen store.new) }
     ensures required { IfOk result (λ found. IfSome found (IsRequired S.X.block32 folder.now.cid)) }
@@ -84,11 +72,7 @@ pub fn thing_of<S: Store, N: NameHash, L: Ledger>(
     entry: &Entry,
     touches: &mut Steps<L>,
 ) -> Result<TypedEntry, StoreFault>
-    ensures thing { (p : Profile) (t : Tree)
-        → IsAgreedAt S.X.block32 N.name64 (S.seen store.old).told p entry.now.cid t
-        → Stood (S.seen store.old).faults (S.seen store.new).faults
-        → LosesOr S.X.block32 N.name64 (S.seen store.old).told p (root_of S.X.block32 N.name64 p t)
-        (IsAgreedThing S.X.block32 N.name64 (S.seen store.old).told p t) result }
+    ensures thing { FindsMet S.X.block32 N.name64 entry.now.cid (S.seen store.old) (S.seen store.new) result }
     ensures reads { OnlyReads S.X.block32 IsBadRoot (fault_in result) (S.seen store.old) (S.seen store.new) }
     ensures required { (root : TheCid) → IfOk result (IsRequired S.X.block32 root) }
     ensures touched { CountsUp (fault_in result) touches.old touches.new }

@@ -1,29 +1,16 @@
 //! Light proofs made.
-ghost use Rattle.std.specs.Prelude.{◌≡◌, ◌-◌, ◌<◌, ◌^◌, [], IfErr, IfOk, List, None, Some, ℕ, false, length};
+ghost use Rattle.std.specs.Prelude.{◌≡◌, ◌-◌, ◌<◌, ◌^◌, [], IfErr, IfOk, None, Some, false, length};
 ghost use Rattle.uf_car.specs.Exporting.{WritesSome};
-ghost use Rattle.uf_edge.specs.Counts.{Counts, Stood};
-ghost use Rattle.uf_edge.specs.Streams.{AppendsPrefix};
+ghost use Rattle.uf_edge.specs.Counts.{Counts};
 ghost use Rattle.uf_store.specs.Calls.{OnlyReads};
 ghost use Rattle.uf_store.specs.Faults.{Shown};
-ghost use Rattle.uf_store.specs.Keeping.{Agrees};
-ghost use Rattle.uf_tree.specs.FilePlan.{file_plan};
-ghost use Rattle.uf_tree.specs.FileSub.{whole_blocks};
-ghost use Rattle.uf_tree.specs.declared.meta.Meta.{Meta};
-ghost use Rattle.uf_tree.specs.declared.nodes.Entry.{Entry as TheEntry};
-ghost use Rattle.uf_fileread.specs.Ranges.{IsFile};
 ghost use Rattle.uf_light.specs.Gathered.{AddsBlocks};
-ghost use Rattle.uf_tree.specs.declared.profile.Profile.{Profile};
-ghost use Rattle.uf_tree.specs.Tree.{Tree};
-ghost use Rattle.uf_tree.specs.TreePlan.{blocks as blocks_of};
-ghost use Rattle.uf_plain.specs.Edits.{at};
-ghost use Rattle.uf_light.specs.Answers.{Proves, is_light_sink, light_fault};
+ghost use Rattle.uf_light.specs.Answers.{is_light_sink, light_fault};
 ghost use Rattle.uf_light.specs.Bad.{IsBadLight};
 ghost use Rattle.uf_light.specs.FileCids.{IsBadInSome};
-ghost use Rattle.uf_light.specs.Light.{HasHeight, light_order, light_says, light_text, proof_of};
-ghost use Rattle.uf_light.specs.Proving.{FindsLight};
 ghost use Rattle.uf_light.specs.Sending.{IsNoCar};
-ghost use Rattle.uf_light.specs.Standing.{IsAgreedAt};
 ghost use Rattle.uf_light.specs.Touches.{CountsUp, IsBlaming};
+ghost use Rattle.uf_light.specs.Along.{AddsFileCids, FindsProof, ProvesPath, WritesPrefixOfProof};
 
 use crate::LightFault;
 use crate::deciding::wanted;
@@ -55,19 +42,12 @@ pub fn prove<S: Store, N: NameHash, O: Sink, L: Ledger>(
     requires { length names.now < 2 ^ 32 }
 
     // Over a store that tells and agrees with the blocks of a tree: the proof, the refusal, or one of them is lost.
-    ensures proves { (p : Profile) (t : Tree) (height : ℕ)
-        → IsAgreedAt S.X.block32 N.name64 (S.seen store.old).told p root.now.cid t
-        → Stood (S.seen store.old).faults (S.seen store.new).faults → HasHeight p height (at 0 names.now t)
-        → Proves (S.seen store.old).told (blocks_of S.X.block32 N.name64 p t)
-        (light_text S.X.block32 N.name64 p height names.now t) (light_says absent names.now (at 0 names.now t)) result
-        (O.holds out.old) (O.holds out.new) }
+    ensures proves { ProvesPath S.X.block32 N.name64 root.now.cid names.now absent (S.seen store.old)
+        (S.seen store.new) result (O.holds out.old) (O.holds out.new) }
 
     // Whatever fails, a prefix of the proof was written and nothing else; where the tree refuses, nothing.
-    ensures prefix { (p : Profile) (t : Tree) (height : ℕ)
-        → IsAgreedAt S.X.block32 N.name64 (S.seen store.old).told p root.now.cid t
-        → (S.seen store.old).faults < 2 ^ 64 - 1 → HasHeight p height (at 0 names.now t)
-        → AppendsPrefix (proof_of (light_says absent names.now (at 0 names.now t))
-        (light_text S.X.block32 N.name64 p height names.now t)) (O.holds out.old) (O.holds out.new) }
+    ensures prefix { WritesPrefixOfProof S.X.block32 N.name64 root.now.cid names.now absent (S.seen store.old)
+        (O.holds out.old) (O.holds out.new) }
     ensures some { WritesSome (O.holds out.old) (O.holds out.new) }
     ensures form { IfErr result IsNoCar }
     ensures cause { Shown S.X.block32 (IsBadLight S.X.block32 N.name64 (S.seen store.old).told root.now.cid)
@@ -90,11 +70,7 @@ fn find_blocks<S: Store, N: NameHash, L: Ledger>(
     touches: &mut Steps<L>,
 ) -> Result<Order, LightFault>
     requires { length names.now < 2 ^ 32 }
-    ensures finds { (p : Profile) (t : Tree) (height : ℕ)
-        → IsAgreedAt S.X.block32 N.name64 (S.seen store.old).told p root.now.cid t
-        → Stood (S.seen store.old).faults (S.seen store.new).faults → HasHeight p height (at 0 names.now t)
-        → FindsLight (S.seen store.old).told (blocks_of S.X.block32 N.name64 p t)
-        (light_order S.X.block32 N.name64 p height names.now t) (light_says absent names.now (at 0 names.now t))
+    ensures finds { FindsProof S.X.block32 N.name64 root.now.cid names.now absent (S.seen store.old) (S.seen store.new)
         result }
     ensures few { IfOk result (λ order. length order < 2 ^ 32) }
     ensures reads { OnlyReads S.X.block32 (IsBadLight S.X.block32 N.name64 (S.seen store.old).told root.now.cid)
@@ -121,12 +97,7 @@ fn add_file<S: Store, L: Ledger>(
     touches: &mut Steps<L>,
 ) -> Result<(), LightFault>
     ensures none { file ≡ None → AddsBlocks (S.seen store.old).told [] cids.old cids.new result }
-    ensures some { (e : TheEntry) (p : Profile) (m : Meta) (bytes : List ℕ) (height : ℕ) → file ≡ Some e
-        → IsFile S.X.block32 p m bytes e.cid height
-        → Agrees (S.seen store.old).told (file_plan S.X.block32 p m bytes).blocks
-        → Stood (S.seen store.old).faults (S.seen store.new).faults
-        → AddsBlocks (S.seen store.old).told (whole_blocks S.X.block32 p.chunk p.width m height bytes) cids.old cids.new
-        result }
+    ensures some { AddsFileCids S.X.block32 file cids.old cids.new (S.seen store.old) (S.seen store.new) result }
     ensures reads { OnlyReads S.X.block32 (IsBadInSome (S.seen store.old).told) (light_fault result)
         (S.seen store.old) (S.seen store.new) }
     ensures quiet { is_light_sink result ≡ false }

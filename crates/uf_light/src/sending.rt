@@ -1,23 +1,14 @@
 //! What is at a path, written to a sink.
-ghost use Rattle.std.specs.Prelude.{◌≡◌, ◌<◌, ◌^◌, ◌-◌, IfErr, IfOk, List, ℕ, length};
+ghost use Rattle.std.specs.Prelude.{◌≡◌, ◌<◌, ◌^◌, ◌-◌, IfErr, IfOk, length};
 ghost use Rattle.uf_car.specs.Exporting.{WritesSome};
-ghost use Rattle.uf_edge.specs.Counts.{Stood};
-ghost use Rattle.uf_edge.specs.Streams.{AppendsPrefix};
 ghost use Rattle.uf_store.specs.Calls.{OnlyReads};
-ghost use Rattle.uf_store.specs.Keeping.{Agrees};
-ghost use Rattle.uf_tree.specs.declared.meta.Meta.{Meta};
-ghost use Rattle.uf_tree.specs.declared.profile.Profile.{Profile};
-ghost use Rattle.uf_tree.specs.FilePlan.{file_plan};
-ghost use Rattle.uf_tree.specs.Tree.{Tree};
-ghost use Rattle.uf_fileread.specs.Ranges.{IsFile, blocks_read};
-ghost use Rattle.uf_plain.specs.Edits.{at};
-ghost use Rattle.uf_plain.specs.Needs.{needs_at};
-ghost use Rattle.uf_light.specs.Answers.{Accepts, CountsSink, file_needs, is_light_sink, light_fault};
+ghost use Rattle.uf_light.specs.Answers.{CountsSink, is_light_sink, light_fault};
 ghost use Rattle.uf_light.specs.Bad.{IsBadLight};
 ghost use Rattle.uf_light.specs.FileCids.{IsBadInSome};
-ghost use Rattle.uf_light.specs.Light.{HasHeight, absent_text, light_says, said_bytes};
-ghost use Rattle.uf_light.specs.Sending.{ComesFirst, IsNoCar, SendsAbsent, SendsFile};
-ghost use Rattle.uf_light.specs.Standing.{IsAgreedAt};
+ghost use Rattle.uf_light.specs.Light.{absent_text};
+ghost use Rattle.uf_light.specs.Sending.{IsNoCar, SendsAbsent};
+ghost use Rattle.uf_light.specs.Along.{AcceptsPath, RefusesFileFirst, RefusesPathFirst, SendsPrefixOfFile};
+ghost use Rattle.uf_light.specs.Along.{SendsWholeFile, WritesPrefixOfSaid};
 
 use crate::LightFault;
 use crate::deciding::wanted;
@@ -45,21 +36,12 @@ pub fn show<S: Store, N: NameHash, O: Sink, L: Ledger>(
     touches: &mut Steps<L>,
 ) -> Result<u64, LightFault>
     requires { length names.now < 2 ^ 32 }
-    ensures accepts { (p : Profile) (t : Tree) (height : ℕ)
-        → IsAgreedAt S.X.block32 N.name64 (S.seen store.old).told p root.now t
-        → Stood (S.seen store.old).faults (S.seen store.new).faults → HasHeight p height (at 0 names.now t)
-        → Accepts (S.seen store.old).told
-        (needs_at S.X.block32 N.name64 p (file_needs S.X.block32 p height) names.now t)
-        (light_says absent names.now (at 0 names.now t)) result (O.holds out.old) (O.holds out.new) }
-    ensures prefix { (p : Profile) (t : Tree) (height : ℕ)
-        → IsAgreedAt S.X.block32 N.name64 (S.seen store.old).told p root.now t
-        → (S.seen store.old).faults < 2 ^ 64 - 1 → HasHeight p height (at 0 names.now t)
-        → AppendsPrefix (said_bytes (light_says absent names.now (at 0 names.now t)))
+    ensures accepts { AcceptsPath S.X.block32 N.name64 root.now names.now absent (S.seen store.old) (S.seen store.new)
+        result (O.holds out.old) (O.holds out.new) }
+    ensures prefix { WritesPrefixOfSaid S.X.block32 N.name64 root.now names.now absent (S.seen store.old)
         (O.holds out.old) (O.holds out.new) }
-    ensures first { (p : Profile) (t : Tree) (height : ℕ)
-        → IsAgreedAt S.X.block32 N.name64 (S.seen store.old).told p root.now t
-        → Stood (S.seen store.old).faults (S.seen store.new).faults → HasHeight p height (at 0 names.now t)
-        → ComesFirst result (O.holds out.old) (O.holds out.new) }
+    ensures first { RefusesPathFirst S.X.block32 N.name64 root.now names.now (S.seen store.old) (S.seen store.new)
+        result (O.holds out.old) (O.holds out.new) }
     ensures some { WritesSome (O.holds out.old) (O.holds out.new) }
     ensures reads { OnlyReads S.X.block32 (IsBadLight S.X.block32 N.name64 (S.seen store.old).told root.now)
         (light_fault result) (S.seen store.old) (S.seen store.new) }
@@ -86,22 +68,12 @@ fn send_file<S: Store, O: Sink, L: Ledger>(
     out: &mut O,
     touches: &mut Steps<L>,
 ) -> Result<u64, LightFault>
-    ensures sends { (p : Profile) (m : Meta) (bytes : List ℕ) (height : ℕ)
-        → IsFile S.X.block32 p m bytes entry.now.cid height
-        → Agrees (S.seen store.old).told (file_plan S.X.block32 p m bytes).blocks
-        → Stood (S.seen store.old).faults (S.seen store.new).faults
-        → SendsFile (S.seen store.old).told
-        (blocks_read S.X.block32 p.chunk p.width m height 0 (2 ^ 64 - 1) bytes) bytes result
+    ensures sends { SendsWholeFile S.X.block32 entry.now.cid (S.seen store.old) (S.seen store.new) result
         (O.holds out.old) (O.holds out.new) }
-    ensures prefix { (p : Profile) (m : Meta) (bytes : List ℕ) (height : ℕ)
-        → IsFile S.X.block32 p m bytes entry.now.cid height
-        → Agrees (S.seen store.old).told (file_plan S.X.block32 p m bytes).blocks
-        → (S.seen store.old).faults < 2 ^ 64 - 1 → AppendsPrefix bytes (O.holds out.old) (O.holds out.new) }
-    ensures first { (p : Profile) (m : Meta) (bytes : List ℕ) (height : ℕ)
-        → IsFile S.X.block32 p m bytes entry.now.cid height
-        → Agrees (S.seen store.old).told (file_plan S.X.block32 p m bytes).blocks
-        → Stood (S.seen store.old).faults (S.seen store.new).faults
-        → ComesFirst result (O.holds out.old) (O.holds out.new) }
+    ensures prefix { SendsPrefixOfFile S.X.block32 entry.now.cid (S.seen store.old) (O.holds out.old)
+        (O.holds out.new) }
+    ensures first { RefusesFileFirst S.X.block32 entry.now.cid (S.seen store.old) (S.seen store.new) result
+        (O.holds out.old) (O.holds out.new) }
     ensures some { WritesSome (O.holds out.old) (O.holds out.new) }
     ensures reads { OnlyReads S.X.block32 (IsBadInSome (S.seen store.old).told) (light_fault result)
         (S.seen store.old) (S.seen store.new) }
