@@ -1,7 +1,9 @@
 pub mod Answers
+pub mod Calls
 pub mod Denoted
 pub mod Good
 pub mod Keyed
+pub mod Laws
 pub mod Leading
 pub mod Metas
 pub mod Pending

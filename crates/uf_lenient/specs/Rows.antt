@@ -7,9 +7,14 @@ use Rattle.uf_cid.specs.Blocks.{Lookup}
 use Rattle.uf_cid.specs.Cid.{cid_bytes}
 use Rattle.uf_cid.specs.declared.cid.Cid.{Cid}
 use Rattle.uf_cid.specs.declared.cid.Codec.TheVariants.{Raw, DagPb}
-use Rattle.uf_message.specs.declared.message.Mtime.{Mtime}
 use Rattle.uf_tree.specs.declared.meta.Meta.{Meta}
+use Rattle.std.specs.declared.result.Result.{Result}
+use Rattle.uf_tree.specs.Metas.{none}
+use Rattle.uf_tree.specs.Tree.{Tree, File}
+use Rattle.uf_lenient.specs.declared.fault.DagFault.{DagFault}
 use Rattle.uf_lenient.specs.declared.shapes.Limits.{Limits}
+use Rattle.uf_lenient.specs.declared.shapes.Shape.{Shape}
+use Rattle.uf_lenient.specs.Reading.{denotes, file_of, resolve_from, shallow_of}
 
 -- the CID of a number, of a node and of a raw block
 abbrev pub nth_digest : ℕ → List ℕ
@@ -142,3 +147,27 @@ usual_limits = record { depth = 256; visits = 1048576 }
 
 abbrev pub with_limits : ℕ → ℕ → Limits
 with_limits depth visits = record { depth = depth; visits = visits }
+
+-- what the node of a number among these blocks denotes, its shape, the bytes of its file, and where names lead from it
+abbrev pub denoted_at : ℕ → Result Tree DagFault
+denoted_at n = denotes some_blocks usual_limits (nth_node n)
+
+abbrev pub shape_at : ℕ → Result Shape DagFault
+shape_at n = shallow_of some_blocks usual_limits (nth_node n)
+
+abbrev pub bytes_of_file_at : ℕ → Result (List ℕ) DagFault
+bytes_of_file_at n = file_of some_blocks usual_limits (nth_node n)
+
+abbrev pub led_from : ℕ → List (List ℕ) → Result Cid DagFault
+led_from n names = resolve_from some_blocks usual_limits 0 names (nth_node n)
+
+-- the same within so many levels and visits
+abbrev pub denoted_within : ℕ → ℕ → ℕ → Result Tree DagFault
+denoted_within depth visits n = denotes some_blocks (with_limits depth visits) (nth_node n)
+
+-- the files of these two characters, with no metadata
+abbrev pub file_hi : Tree
+file_hi = File none (codes "hi")
+
+abbrev pub file_ab : Tree
+file_ab = File none (codes "ab")

@@ -1,11 +1,7 @@
 //! Leaves of a file that a store is told of before they are visited.
 ghost use Rattle.std.specs.Prelude.{◌≡◌, ◌≤◌, ◌+◌, OnOk};
-ghost use Rattle.uf_store.specs.Calls.{OnlyReads};
-ghost use Rattle.uf_store.specs.Faults.{NoneIsBad};
-ghost use Rattle.uf_lenient.specs.Answers.{FollowsReading, dag_fault};
-ghost use Rattle.uf_lenient.specs.Good.{ByGoodBlocks};
 ghost use Rattle.uf_lenient.specs.Pending.{own_part};
-ghost use Rattle.uf_lenient.specs.Reading.{loads};
+ghost use Rattle.uf_lenient.specs.Calls.{LendsVisited, ReadsDag, SaysVisits, TouchesByVisit};
 
 use crate::DagFault;
 use crate::due::{Due, Visited};
@@ -20,8 +16,8 @@ use uf_store::{Steps, Store};
 // How many leaves a store is told of at most, the next one among them.
 const MOST_AHEAD: usize = 8;
 
-/// Visits a raw block, as `enter` does. The store is told of it and of the leaves that come after it, of which the next
-/// one is the last of `rest`.
+/// Visits a raw block, as `enter` does. The store is told of it and of the leaves that come after it, of which the
+/// next one is the last of `rest`.
 pub fn enter_ahead<S: Store, L: Ledger>(
     store: &mut S,
     next: &Due,
@@ -29,13 +25,12 @@ pub fn enter_ahead<S: Store, L: Ledger>(
     visits: &mut u32,
     touches: &mut Steps<L>,
 ) -> Result<(), DagFault>
-    ensures says { ByGoodBlocks S.X.block32 (S.seen store.old).told (λ held. FollowsReading
-        (λ _. ((S.seen store.new).lent, visits.new)) (loads held next.now.left next.now.cid visits.old) result) }
-    ensures reads { OnlyReads S.X.block32 NoneIsBad (dag_fault result) (S.seen store.old) (S.seen store.new) }
+    ensures says { LendsVisited S.X.block32 next.now.left next.now.cid (S.seen store.old) (S.seen store.new) visits.old
+        visits.new result }
+    ensures reads { ReadsDag S.X.block32 (S.seen store.old) (S.seen store.new) result }
     ensures depth { OnOk result (1 ≤ next.now.left) }
     ensures fewer { OnOk result (visits.new + 1 ≡ visits.old) }
-    ensures touches { touches.new + visits.new ≡ touches.old + visits.old }
-    ensures touched { touches.old ≤ touches.new }
+    ensures touches { TouchesByVisit visits.old visits.new touches.old touches.new }
 {
     foresee_leaves(store, next, rest);
     enter(store, &next.cid, next.left, visits, touches)
@@ -50,14 +45,13 @@ pub fn read_ahead<S: Store, L: Ledger>(
     visits: &mut u32,
     touches: &mut Steps<L>,
 ) -> Result<(Block, Links), DagFault>
-    ensures says { ByGoodBlocks S.X.block32 (S.seen store.old).told (λ held. FollowsReading (λ own. (own, visits.new))
-        (own_part held next.now visits.old) result) }
-    ensures reads { OnlyReads S.X.block32 NoneIsBad (dag_fault result) (S.seen store.old) (S.seen store.new) }
+    ensures says { SaysVisits S.X.block32 (S.seen store.old) visits.new (λ held. own_part held next.now visits.old)
+        result }
+    ensures reads { ReadsDag S.X.block32 (S.seen store.old) (S.seen store.new) result }
     ensures depth { OnOk result (1 ≤ next.now.left) }
     ensures fewer { OnOk result (visits.new + 1 ≡ visits.old) }
     ensures most { visits.old ≤ visits.new + 1 }
-    ensures touches { touches.new + visits.new ≡ touches.old + visits.old }
-    ensures touched { touches.old ≤ touches.new }
+    ensures touches { TouchesByVisit visits.old visits.new touches.old touches.new }
 {
     foresee_leaves(store, next, rest);
     read_node(alloc, store, next, visits, touches)

@@ -2,16 +2,14 @@
 ghost use Rattle.std.specs.Prelude.{◌≡◌, ◌≤◌, ◌<◌, ◌+◌, ◌-◌, ◌*◌, [], ◌∷◌, ℕ, IfErr, IfOk, IsTrue, OnOk, length};
 ghost use Rattle.std.specs.Option.{option_map};
 ghost use Rattle.uf_cid.specs.declared.cid.Cid.{Cid as TheCid};
-ghost use Rattle.uf_store.specs.Calls.{OnlyReads};
-ghost use Rattle.uf_store.specs.Faults.{NoneIsBad};
-ghost use Rattle.uf_lenient.specs.Answers.{FollowsReading, IsBare, dag_fault};
-ghost use Rattle.uf_lenient.specs.Good.{ByGoodBlocks};
+ghost use Rattle.uf_lenient.specs.Answers.{FollowsReading, IsBare};
 ghost use Rattle.uf_tree.specs.Metas.{is_meta};
 ghost use Rattle.uf_lenient.specs.Metas.{IsGoodGathered};
-ghost use Rattle.uf_lenient.specs.Pending.{frames_ways, own_shard};
-ghost use Rattle.uf_lenient.specs.Reading.{Visits, Ways, behind_slot, gathered, is_digit, meet, meet_all};
-ghost use Rattle.uf_lenient.specs.Reading.{shard_ways, sub_ways};
-ghost use Rattle.uf_lenient.specs.Steps.{AddsEntries, StepsTo, gathered_folder, gathered_folder_behind};
+ghost use Rattle.uf_lenient.specs.Pending.{own_shard};
+ghost use Rattle.uf_lenient.specs.Reading.{Visits, Ways, behind_slot, gathered, is_digit, meet, meet_all, shard_ways};
+ghost use Rattle.uf_lenient.specs.Reading.{sub_ways};
+ghost use Rattle.uf_lenient.specs.Steps.{AddsEntries, gathered_folder, gathered_folder_behind};
+ghost use Rattle.uf_lenient.specs.Calls.{AddsFrames, AddsOneFrame, ReadsDag, SaysVisits, TouchesByVisit};
 
 use crate::DagFault;
 use crate::due::Frame;
@@ -28,7 +26,8 @@ use uf_dagpb::Links;
 use uf_store::{Steps, Store};
 use uf_tree::Meta;
 
-/// Visits what a CID names: the first node of a file, or a directory with all its sub-shards. One touch for each visit.
+/// Visits what a CID names: the first node of a file, or a directory with all its sub-shards. One touch for each
+/// visit.
 pub fn gather<S: Store, L: Ledger>(
     alloc: Global,
     store: &mut S,
@@ -37,14 +36,13 @@ pub fn gather<S: Store, L: Ledger>(
     visits: &mut u32,
     touches: &mut Steps<L>,
 ) -> Result<Gathered, DagFault>
-    ensures says { ByGoodBlocks S.X.block32 (S.seen store.old).told (λ held. FollowsReading (λ g. (g, visits.new))
-        (gathered held left cid.now visits.old) result) }
+    ensures says { SaysVisits S.X.block32 (S.seen store.old) visits.new (λ held. gathered held left cid.now visits.old)
+        result }
     ensures good { IfOk result IsGoodGathered }
-    ensures reads { OnlyReads S.X.block32 NoneIsBad (dag_fault result) (S.seen store.old) (S.seen store.new) }
+    ensures reads { ReadsDag S.X.block32 (S.seen store.old) (S.seen store.new) result }
     ensures depth { OnOk result (1 ≤ left) }
     ensures fewer { OnOk result (visits.new < visits.old) }
-    ensures touches { touches.new + visits.new ≡ touches.old + visits.old }
-    ensures touched { touches.old ≤ touches.new }
+    ensures touches { TouchesByVisit visits.old visits.new touches.old touches.new }
 {
     match visit(alloc, store, cid, left, visits, touches)? {
         Unixfs::File(meta, bytes, links) => Ok(Gathered::File(meta, bytes, links)),
@@ -98,12 +96,11 @@ fn gather_shards<S: Store, L: Ledger>(
 ) -> Result<Gathered, DagFault>
     requires good { IsTrue (is_meta meta) }
     ensures good { IfOk result IsGoodGathered }
-    ensures says { ByGoodBlocks S.X.block32 (S.seen store.old).told (λ held. FollowsReading (λ g. (g, visits.new))
-        (gathered_folder_behind meta (shard_ways (sub_ways held left) by.now left links [] visits.old)) result) }
-    ensures reads { OnlyReads S.X.block32 NoneIsBad (dag_fault result) (S.seen store.old) (S.seen store.new) }
+    ensures says { SaysVisits S.X.block32 (S.seen store.old) visits.new (λ held.
+        gathered_folder_behind meta (shard_ways (sub_ways held left) by.now left links [] visits.old)) result }
+    ensures reads { ReadsDag S.X.block32 (S.seen store.old) (S.seen store.new) result }
     ensures fewer { OnOk result (visits.new ≤ visits.old) }
-    ensures touches { touches.new + visits.new ≡ touches.old + visits.old }
-    ensures touched { touches.old ≤ touches.new }
+    ensures touches { TouchesByVisit visits.old visits.new touches.old touches.new }
 {
     let mut met = MetWays::new(alloc);
     let mut frames = Pile::new(alloc);
@@ -126,12 +123,10 @@ fn gather_frames<S: Store, L: Ledger>(
     visits: &mut u32,
     touches: &mut Steps<L>,
 ) -> Result<(), DagFault>
-    ensures says { ByGoodBlocks S.X.block32 (S.seen store.old).told (λ held. FollowsReading (λ _. (met.new, visits.new))
-        (frames_ways held frames.old met.old visits.old) result) }
-    ensures reads { OnlyReads S.X.block32 NoneIsBad (dag_fault result) (S.seen store.old) (S.seen store.new) }
+    ensures says { AddsFrames S.X.block32 (S.seen store.old) frames.old met.old met.new visits.old visits.new result }
+    ensures reads { ReadsDag S.X.block32 (S.seen store.old) (S.seen store.new) result }
     ensures fewer { OnOk result (visits.new ≤ visits.old) }
-    ensures touches { touches.new + visits.new ≡ touches.old + visits.old }
-    ensures touched { touches.old ≤ touches.new }
+    ensures touches { TouchesByVisit visits.old visits.new touches.old touches.new }
 {
     while let Some(frame) = frames.pop() {
         gather_frame(alloc, store, frame, frames, met, visits, touches)?;
@@ -149,14 +144,12 @@ fn gather_frame<S: Store, L: Ledger>(
     visits: &mut u32,
     touches: &mut Steps<L>,
 ) -> Result<(), DagFault>
-    ensures says { ByGoodBlocks S.X.block32 (S.seen store.old).told (λ held. StepsTo
-        (frames_ways held (frame ∷ frames.old) met.old visits.old)
-        (frames_ways held frames.new met.new visits.new) result) }
-    ensures reads { OnlyReads S.X.block32 NoneIsBad (dag_fault result) (S.seen store.old) (S.seen store.new) }
+    ensures says { AddsOneFrame S.X.block32 (S.seen store.old) (frame ∷ frames.old) frames.new met.old met.new
+        visits.old visits.new result }
+    ensures reads { ReadsDag S.X.block32 (S.seen store.old) (S.seen store.new) result }
     ensures fewer { OnOk result (visits.new ≤ visits.old) }
     ensures smaller { OnOk result (2 * visits.new + length frames.new < 2 * visits.old + length frames.old + 1) }
-    ensures touches { touches.new + visits.new ≡ touches.old + visits.old }
-    ensures touched { touches.old ≤ touches.new }
+    ensures touches { TouchesByVisit visits.old visits.new touches.old touches.new }
 {
     match add_entries(alloc, &frame, met)? {
         None => Ok(()),
@@ -177,13 +170,12 @@ fn enter_shard<S: Store, L: Ledger>(
     visits: &mut u32,
     touches: &mut Steps<L>,
 ) -> Result<Links, DagFault>
-    ensures says { ByGoodBlocks S.X.block32 (S.seen store.old).told (λ held. FollowsReading
-        (λ links. (links, visits.new)) (own_shard held left cid.now visits.old) result) }
-    ensures reads { OnlyReads S.X.block32 NoneIsBad (dag_fault result) (S.seen store.old) (S.seen store.new) }
+    ensures says { SaysVisits S.X.block32 (S.seen store.old) visits.new
+        (λ held. own_shard held left cid.now visits.old) result }
+    ensures reads { ReadsDag S.X.block32 (S.seen store.old) (S.seen store.new) result }
     ensures depth { OnOk result (1 ≤ left) }
     ensures fewer { OnOk result (visits.new + 1 ≡ visits.old) }
-    ensures touches { touches.new + visits.new ≡ touches.old + visits.old }
-    ensures touched { touches.old ≤ touches.new }
+    ensures touches { TouchesByVisit visits.old visits.new touches.old touches.new }
 {
     let node = visit(alloc, store, cid, left, visits, touches)?;
     shard_of(cid, node)

@@ -1,12 +1,9 @@
 //! One directory read.
-ghost use Rattle.std.specs.Prelude.{◌≡◌, ◌≤◌, ◌+◌, IfErr, IfOk, IfSome, Ok};
-ghost use Rattle.uf_store.specs.Contents.{held_at};
-ghost use Rattle.uf_store.specs.Faults.{NoneIsBad, Shown};
-ghost use Rattle.uf_lenient.specs.Answers.{FollowsReading, dag_fault};
-ghost use Rattle.uf_lenient.specs.Good.{ByGoodBlocks};
+ghost use Rattle.std.specs.Prelude.{◌≡◌, ◌≤◌, ◌+◌, IfOk, Ok};
 ghost use Rattle.uf_lenient.specs.Metas.{IsGoodGathered, IsGoodShape};
 ghost use Rattle.uf_lenient.specs.Reading.{shallow_of, shape_of as shape_is};
 ghost use Rattle.uf_lenient.specs.Steps.{IsInOrder};
+ghost use Rattle.uf_lenient.specs.Calls.{SaysGoodReading, SaysReading, ShowsDag};
 
 use crate::gathered::Gathered;
 use crate::gathering::gather;
@@ -25,13 +22,11 @@ pub fn shallow<S: Store, L: Ledger>(
     limits: &Limits,
     touches: &mut Steps<L>,
 ) -> Result<Shape, DagFault>
-    ensures says { IfSome (S.seen store.old).told (λ t. FollowsReading (λ s. s)
-        (shallow_of (held_at t) limits.now cid.now) result) }
-    ensures good { ByGoodBlocks S.X.block32 (S.seen store.old).told (λ held. FollowsReading (λ s. s)
-        (shallow_of held limits.now cid.now) result) }
+    ensures says { SaysReading (S.seen store.old) (λ held. shallow_of held limits.now cid.now) result }
+    ensures good { SaysGoodReading S.X.block32 (S.seen store.old) (λ held. shallow_of held limits.now cid.now) result }
     ensures order { IfOk result IsInOrder }
     ensures good_meta { IfOk result IsGoodShape }
-    ensures cause { Shown S.X.block32 NoneIsBad (dag_fault result) (S.seen store.old) (S.seen store.new) }
+    ensures cause { ShowsDag S.X.block32 (S.seen store.old) (S.seen store.new) result }
     ensures told { (S.seen store.new).told ≡ (S.seen store.old).told }
     ensures touches { touches.new ≤ touches.old + limits.now.visits }
     ensures touched { touches.old ≤ touches.new }

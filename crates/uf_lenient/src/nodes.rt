@@ -6,8 +6,8 @@ ghost use Rattle.uf_tree.specs.Metas.{is_meta, is_mode, is_mtime, none};
 ghost use Rattle.uf_lenient.specs.declared.unixfs.Unixfs.TheVariants.{File};
 ghost use Rattle.uf_lenient.specs.Answers.{FollowsReading, IsBare};
 ghost use Rattle.uf_lenient.specs.Metas.{IsGoodUnixfs, meta_read, mtime_read, time_read};
-ghost use Rattle.uf_lenient.specs.Unixfs.{as_file, as_part, as_shard, content_says, is_hamt, message_says, msg_refusal};
-ghost use Rattle.uf_lenient.specs.Unixfs.{of_kind, pb_refusal, unixfs_of};
+ghost use Rattle.uf_lenient.specs.Unixfs.{as_file, as_part, as_shard, content_says, is_hamt, message_says};
+ghost use Rattle.uf_lenient.specs.Unixfs.{msg_refusal, of_kind, pb_refusal, unixfs_of};
 
 use crate::DagFault;
 use crate::unixfs::Unixfs;

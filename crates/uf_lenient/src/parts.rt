@@ -1,10 +1,7 @@
 //! Nodes of files visited.
-ghost use Rattle.std.specs.Prelude.{◌≡◌, ◌≤◌, ◌+◌, ◌∷◌, ◌++◌, OnOk};
-ghost use Rattle.uf_store.specs.Calls.{OnlyReads};
-ghost use Rattle.uf_store.specs.Faults.{NoneIsBad};
-ghost use Rattle.uf_lenient.specs.Answers.{FollowsReading, dag_fault};
-ghost use Rattle.uf_lenient.specs.Good.{ByGoodBlocks};
+ghost use Rattle.std.specs.Prelude.{◌≡◌, ◌≤◌, ◌+◌, ◌++◌, OnOk};
 ghost use Rattle.uf_lenient.specs.Pending.{own_part, parts_due};
+ghost use Rattle.uf_lenient.specs.Calls.{ReadsDag, SaysVisits, TouchesByVisit};
 
 use crate::DagFault;
 use crate::due::{Due, Visited};
@@ -25,14 +22,13 @@ pub fn read_node<S: Store, L: Ledger>(
     visits: &mut u32,
     touches: &mut Steps<L>,
 ) -> Result<(Block, Links), DagFault>
-    ensures says { ByGoodBlocks S.X.block32 (S.seen store.old).told (λ held. FollowsReading (λ own. (own, visits.new))
-        (own_part held next.now visits.old) result) }
-    ensures reads { OnlyReads S.X.block32 NoneIsBad (dag_fault result) (S.seen store.old) (S.seen store.new) }
+    ensures says { SaysVisits S.X.block32 (S.seen store.old) visits.new (λ held. own_part held next.now visits.old)
+        result }
+    ensures reads { ReadsDag S.X.block32 (S.seen store.old) (S.seen store.new) result }
     ensures depth { OnOk result (1 ≤ next.now.left) }
     ensures fewer { OnOk result (visits.new + 1 ≡ visits.old) }
     ensures most { visits.old ≤ visits.new + 1 }
-    ensures touches { touches.new + visits.new ≡ touches.old + visits.old }
-    ensures touched { touches.old ≤ touches.new }
+    ensures touches { TouchesByVisit visits.old visits.new touches.old touches.new }
 {
     let node = visit(alloc, store, &next.cid, next.left, visits, touches)?;
     match next.visited {

@@ -1,16 +1,14 @@
 //! A file read node by node.
-ghost use Rattle.std.specs.Prelude.{◌≡◌, ◌≤◌, ◌+◌, ◌↔◌, [], ◌++◌, drop, length, IfOk, IfSome, IsSome, Ok, OnErr, OnOk};
-ghost use Rattle.std.specs.Prelude.{None, Some, slice_get};
+ghost use Rattle.std.specs.Prelude.{◌≡◌, ◌≤◌, ◌+◌, ◌↔◌, [], ◌++◌, drop, length, IfOk, IfSome, Ok, OnErr, OnOk, None};
+ghost use Rattle.std.specs.Prelude.{Some, slice_get, ℕ};
 ghost use Rattle.uf_cid.specs.Blocks.{Lookup as Held};
-ghost use Rattle.uf_store.specs.Calls.{OnlyReads};
 ghost use Rattle.uf_store.specs.Contents.{held_at};
-ghost use Rattle.uf_store.specs.Faults.{NoneIsBad, Shown};
-ghost use Rattle.uf_lenient.specs.Answers.{dag_fault};
 ghost use Rattle.uf_lenient.specs.Good.{ByGoodBlocks};
 ghost use Rattle.uf_lenient.specs.Pending.{parts_due};
 ghost use Rattle.uf_lenient.specs.Reading.{file_of};
 ghost use Rattle.uf_lenient.specs.Steps.{IsNextPiece, IsPiece, start_of, to_come};
 ghost use Rattle.uf_lenient.specs.Visited.{VisitsNext};
+ghost use Rattle.uf_lenient.specs.Calls.{ReadsDag, ShowsDag};
 
 use crate::ahead::read_ahead;
 use crate::due::{Due, Visited};
@@ -77,7 +75,7 @@ impl Pieces {
         ensures unvisited { (result ≡ Ok None) → self.new ≡ self.old }
         ensures same { OnErr result (self.new ≡ self.old) }
         ensures fewer { IfOk result (λ piece. IfSome piece (λ _. self.new.1 + 1 ≡ self.old.1)) }
-        ensures cause { Shown S.X.block32 NoneIsBad (dag_fault result) (S.seen store.old) (S.seen store.new) }
+        ensures cause { ShowsDag S.X.block32 (S.seen store.old) (S.seen store.new) result }
         ensures told { (S.seen store.new).told ≡ (S.seen store.old).told }
         ensures touches { touches.new ≤ touches.old + 1 }
         ensures within { touches.new ≤ touches.old + self.old.1 }
@@ -106,7 +104,7 @@ impl Pieces {
             OnOk result (VisitsNext held self.old self.new)) }
         ensures same { OnErr result (self.new ≡ self.old) }
         ensures fewer { OnOk result (self.new.1 + 1 ≡ self.old.1) }
-        ensures reads { OnlyReads S.X.block32 NoneIsBad (dag_fault result) (S.seen store.old) (S.seen store.new) }
+        ensures reads { ReadsDag S.X.block32 (S.seen store.old) (S.seen store.new) result }
         ensures touches { touches.new ≤ touches.old + 1 }
         ensures within { touches.new ≤ touches.old + self.old.1 }
         ensures touched { touches.old ≤ touches.new }

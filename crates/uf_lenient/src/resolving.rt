@@ -1,14 +1,10 @@
 //! Paths in a DAG followed.
-ghost use Rattle.std.specs.Prelude.{◌≡◌, ◌≤◌, ◌<◌, ◌+◌, ◌*◌, ◌^◌, IfSome, length};
+ghost use Rattle.std.specs.Prelude.{◌≡◌, ◌≤◌, ◌<◌, ◌+◌, ◌*◌, ◌^◌, length};
 ghost use Rattle.std.specs.FinMap.Entries.{find};
 ghost use Rattle.std.specs.Ordering.{eq_by_cmp};
-ghost use Rattle.uf_store.specs.Calls.{OnlyReads};
-ghost use Rattle.uf_store.specs.Contents.{held_at};
-ghost use Rattle.uf_store.specs.Faults.{NoneIsBad, Shown};
 ghost use Rattle.uf_tree.specs.Names.{names_cmp};
-ghost use Rattle.uf_lenient.specs.Answers.{FollowsReading, dag_fault};
-ghost use Rattle.uf_lenient.specs.Good.{ByGoodBlocks};
 ghost use Rattle.uf_lenient.specs.Reading.{resolve_from, step_of};
+ghost use Rattle.uf_lenient.specs.Calls.{ReadsDag, SaysGoodReading, SaysReading, ShowsDag};
 
 use crate::{DagFault, Limits, Shape, Way, shallow};
 use std::alloc::Global;
@@ -28,11 +24,11 @@ pub fn resolve<S: Store, L: Ledger>(
     touches: &mut Steps<L>,
 ) -> Result<Cid, DagFault>
     requires few { length path.now.names < 2 ^ 32 }
-    ensures says { IfSome (S.seen store.old).told (λ t. FollowsReading (λ c. c)
-        (resolve_from (held_at t) limits.now 0 path.now.names path.now.cid) result) }
-    ensures good { ByGoodBlocks S.X.block32 (S.seen store.old).told (λ held. FollowsReading (λ c. c)
-        (resolve_from held limits.now 0 path.now.names path.now.cid) result) }
-    ensures cause { Shown S.X.block32 NoneIsBad (dag_fault result) (S.seen store.old) (S.seen store.new) }
+    ensures says { SaysReading (S.seen store.old) (λ held. resolve_from held limits.now 0 path.now.names path.now.cid)
+        result }
+    ensures good { SaysGoodReading S.X.block32 (S.seen store.old)
+        (λ held. resolve_from held limits.now 0 path.now.names path.now.cid) result }
+    ensures cause { ShowsDag S.X.block32 (S.seen store.old) (S.seen store.new) result }
     ensures told { (S.seen store.new).told ≡ (S.seen store.old).told }
     ensures touches { touches.new ≤ touches.old + length path.now.names * limits.now.visits }
     ensures touched { touches.old ≤ touches.new }
@@ -55,9 +51,9 @@ fn step<S: Store, L: Ledger>(
     limits: &Limits,
     touches: &mut Steps<L>,
 ) -> Result<Cid, DagFault>
-    ensures says { ByGoodBlocks S.X.block32 (S.seen store.old).told (λ held. FollowsReading (λ c. c)
-        (step_of held limits.now place name.now cid.now) result) }
-    ensures reads { OnlyReads S.X.block32 NoneIsBad (dag_fault result) (S.seen store.old) (S.seen store.new) }
+    ensures says { SaysGoodReading S.X.block32 (S.seen store.old)
+        (λ held. step_of held limits.now place name.now cid.now) result }
+    ensures reads { ReadsDag S.X.block32 (S.seen store.old) (S.seen store.new) result }
     ensures touches { touches.new ≤ touches.old + limits.now.visits }
     ensures touched { touches.old ≤ touches.new }
 {

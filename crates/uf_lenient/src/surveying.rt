@@ -1,15 +1,13 @@
 //! Everything below a CID read.
 ghost use Rattle.std.specs.Prelude.{◌≡◌, ◌≢◌, ◌≤◌, ◌<◌, ◌+◌, ◌∷◌, ◌++◌, IfOk, IfSome, OnOk, map};
 ghost use Rattle.uf_lenient.specs.declared.due.Visited.TheVariants.{Whole};
-ghost use Rattle.uf_store.specs.Calls.{OnlyReads};
 ghost use Rattle.uf_store.specs.Contents.{held_at};
-ghost use Rattle.uf_store.specs.Faults.{NoneIsBad, Shown};
-ghost use Rattle.uf_lenient.specs.Answers.{FollowsReading, dag_fault};
 ghost use Rattle.uf_lenient.specs.Good.{ByGoodBlocks};
 ghost use Rattle.uf_lenient.specs.Metas.{IsGoodGathered, IsGoodShape};
-ghost use Rattle.uf_lenient.specs.Pending.{all_end, gathered_due, way_due};
+ghost use Rattle.uf_lenient.specs.Pending.{gathered_due, way_due};
 ghost use Rattle.uf_lenient.specs.Reading.{shape_of as shape_is};
-ghost use Rattle.uf_lenient.specs.Steps.{IsInOrder, StepsTo, Surveys};
+ghost use Rattle.uf_lenient.specs.Steps.{IsInOrder, Surveys};
+ghost use Rattle.uf_lenient.specs.Calls.{ReadsAllDue, ReadsDag, ReadsOneDue, ShowsDag, TouchesByVisit};
 
 use crate::ahead::enter_ahead;
 use crate::due::{Due, Visited};
@@ -38,7 +36,7 @@ pub fn survey<S: Store, L: Ledger>(
     ensures good { ByGoodBlocks S.X.block32 (S.seen store.old).told (λ held. Surveys held limits.now cid.now result) }
     ensures order { IfOk result IsInOrder }
     ensures good_meta { IfOk result IsGoodShape }
-    ensures cause { Shown S.X.block32 NoneIsBad (dag_fault result) (S.seen store.old) (S.seen store.new) }
+    ensures cause { ShowsDag S.X.block32 (S.seen store.old) (S.seen store.new) result }
     ensures told { (S.seen store.new).told ≡ (S.seen store.old).told }
     ensures touches { touches.new ≤ touches.old + limits.now.visits }
     ensures touched { touches.old ≤ touches.new }
@@ -59,14 +57,13 @@ fn complete<S: Store, L: Ledger>(
     touches: &mut Steps<L>,
 ) -> Result<Shape, DagFault>
     requires good { IsGoodGathered gathered }
-    ensures says { ByGoodBlocks S.X.block32 (S.seen store.old).told (λ held. FollowsReading (λ _. visits.new)
-        (all_end held (gathered_due left gathered) visits.old) result) }
-    ensures reads { OnlyReads S.X.block32 NoneIsBad (dag_fault result) (S.seen store.old) (S.seen store.new) }
+    ensures says { ReadsAllDue S.X.block32 (S.seen store.old) (gathered_due left gathered) visits.old visits.new
+        result }
+    ensures reads { ReadsDag S.X.block32 (S.seen store.old) (S.seen store.new) result }
     ensures shape { IfOk result (λ s. s ≡ shape_is gathered) }
     ensures order { IfOk result IsInOrder }
     ensures good_meta { IfOk result IsGoodShape }
-    ensures touches { touches.new + visits.new ≡ touches.old + visits.old }
-    ensures touched { touches.old ≤ touches.new }
+    ensures touches { TouchesByVisit visits.old visits.new touches.old touches.new }
 {
     let shape = shape_of(alloc, &gathered)?;
     let mut due = Pile::new(alloc);
@@ -83,11 +80,9 @@ fn read_due<S: Store, L: Ledger>(
     visits: &mut u32,
     touches: &mut Steps<L>,
 ) -> Result<(), DagFault>
-    ensures says { ByGoodBlocks S.X.block32 (S.seen store.old).told (λ held. FollowsReading (λ _. visits.new)
-        (all_end held due.old visits.old) result) }
-    ensures reads { OnlyReads S.X.block32 NoneIsBad (dag_fault result) (S.seen store.old) (S.seen store.new) }
-    ensures touches { touches.new + visits.new ≡ touches.old + visits.old }
-    ensures touched { touches.old ≤ touches.new }
+    ensures says { ReadsAllDue S.X.block32 (S.seen store.old) due.old visits.old visits.new result }
+    ensures reads { ReadsDag S.X.block32 (S.seen store.old) (S.seen store.new) result }
+    ensures touches { TouchesByVisit visits.old visits.new touches.old touches.new }
 {
     while let Some(next) = due.pop() {
         read_one(alloc, store, &next, due, visits, touches)?;
@@ -104,12 +99,11 @@ fn read_one<S: Store, L: Ledger>(
     visits: &mut u32,
     touches: &mut Steps<L>,
 ) -> Result<(), DagFault>
-    ensures says { ByGoodBlocks S.X.block32 (S.seen store.old).told (λ held. StepsTo
-        (all_end held (next.now ∷ due.old) visits.old) (all_end held due.new visits.new) result) }
-    ensures reads { OnlyReads S.X.block32 NoneIsBad (dag_fault result) (S.seen store.old) (S.seen store.new) }
+    ensures says { ReadsOneDue S.X.block32 (S.seen store.old) (next.now ∷ due.old) due.new visits.old visits.new
+        result }
+    ensures reads { ReadsDag S.X.block32 (S.seen store.old) (S.seen store.new) result }
     ensures fewer { OnOk result (visits.new < visits.old) }
-    ensures touches { touches.new + visits.new ≡ touches.old + visits.old }
-    ensures touched { touches.old ≤ touches.new }
+    ensures touches { TouchesByVisit visits.old visits.new touches.old touches.new }
 {
     match next.cid.codec {
         Codec::Raw => enter_ahead(store, next, due.as_slice(), visits, touches),
@@ -130,12 +124,11 @@ fn read_whole<S: Store, L: Ledger>(
     visits: &mut u32,
     touches: &mut Steps<L>,
 ) -> Result<(), DagFault>
-    ensures says { next.now.visited ≡ Whole → ByGoodBlocks S.X.block32 (S.seen store.old).told (λ held.
-        StepsTo (all_end held (next.now ∷ due.old) visits.old) (all_end held due.new visits.new) result) }
-    ensures reads { OnlyReads S.X.block32 NoneIsBad (dag_fault result) (S.seen store.old) (S.seen store.new) }
+    ensures says { next.now.visited ≡ Whole → ReadsOneDue S.X.block32 (S.seen store.old) (next.now ∷ due.old) due.new
+        visits.old visits.new result }
+    ensures reads { ReadsDag S.X.block32 (S.seen store.old) (S.seen store.new) result }
     ensures fewer { OnOk result (visits.new < visits.old) }
-    ensures touches { touches.new + visits.new ≡ touches.old + visits.old }
-    ensures touched { touches.old ≤ touches.new }
+    ensures touches { TouchesByVisit visits.old visits.new touches.old touches.new }
 {
     let gathered = gather(alloc, store, &next.cid, next.left, visits, touches)?;
     put_gathered(due, gathered, next.left - 1)?;
@@ -151,12 +144,11 @@ fn read_part<S: Store, L: Ledger>(
     visits: &mut u32,
     touches: &mut Steps<L>,
 ) -> Result<(), DagFault>
-    ensures says { next.now.visited ≢ Whole → ByGoodBlocks S.X.block32 (S.seen store.old).told (λ held.
-        StepsTo (all_end held (next.now ∷ due.old) visits.old) (all_end held due.new visits.new) result) }
-    ensures reads { OnlyReads S.X.block32 NoneIsBad (dag_fault result) (S.seen store.old) (S.seen store.new) }
+    ensures says { next.now.visited ≢ Whole → ReadsOneDue S.X.block32 (S.seen store.old) (next.now ∷ due.old) due.new
+        visits.old visits.new result }
+    ensures reads { ReadsDag S.X.block32 (S.seen store.old) (S.seen store.new) result }
     ensures fewer { OnOk result (visits.new < visits.old) }
-    ensures touches { touches.new + visits.new ≡ touches.old + visits.old }
-    ensures touched { touches.old ≤ touches.new }
+    ensures touches { TouchesByVisit visits.old visits.new touches.old touches.new }
 {
     let (_, links) = read_node(alloc, store, next, visits, touches)?;
     put_parts(due, links.as_slice(), next.left - 1)?;

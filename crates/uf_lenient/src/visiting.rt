@@ -1,11 +1,8 @@
 //! One visit.
 ghost use Rattle.std.specs.Prelude.{◌≡◌, ◌≤◌, ◌+◌, IfOk, OnOk};
-ghost use Rattle.uf_store.specs.Calls.{OnlyReads};
-ghost use Rattle.uf_store.specs.Faults.{NoneIsBad};
-ghost use Rattle.uf_lenient.specs.Answers.{FollowsReading, dag_fault};
-ghost use Rattle.uf_lenient.specs.Good.{ByGoodBlocks};
 ghost use Rattle.uf_lenient.specs.Metas.{IsGoodUnixfs};
-ghost use Rattle.uf_lenient.specs.Reading.{loads, visit_of};
+ghost use Rattle.uf_lenient.specs.Reading.{visit_of};
+ghost use Rattle.uf_lenient.specs.Calls.{LendsVisited, ReadsDag, SaysVisits, TouchesByVisit};
 
 use crate::DagFault;
 use crate::nodes::read_unixfs;
@@ -23,14 +20,13 @@ pub fn enter<S: Store, L: Ledger>(
     visits: &mut u32,
     touches: &mut Steps<L>,
 ) -> Result<(), DagFault>
-    ensures says { ByGoodBlocks S.X.block32 (S.seen store.old).told (λ held. FollowsReading
-        (λ _. ((S.seen store.new).lent, visits.new)) (loads held left cid.now visits.old) result) }
-    ensures reads { OnlyReads S.X.block32 NoneIsBad (dag_fault result) (S.seen store.old) (S.seen store.new) }
+    ensures says { LendsVisited S.X.block32 left cid.now (S.seen store.old) (S.seen store.new) visits.old visits.new
+        result }
+    ensures reads { ReadsDag S.X.block32 (S.seen store.old) (S.seen store.new) result }
     ensures depth { OnOk result (1 ≤ left) }
     ensures fewer { OnOk result (visits.new + 1 ≡ visits.old) }
     ensures most { visits.old ≤ visits.new + 1 }
-    ensures touches { touches.new + visits.new ≡ touches.old + visits.old }
-    ensures touched { touches.old ≤ touches.new }
+    ensures touches { TouchesByVisit visits.old visits.new touches.old touches.new }
 {
     if left == 0 {
         return Err(DagFault::TooDeep(*cid));
@@ -52,15 +48,14 @@ pub fn visit<S: Store, L: Ledger>(
     visits: &mut u32,
     touches: &mut Steps<L>,
 ) -> Result<Unixfs, DagFault>
-    ensures says { ByGoodBlocks S.X.block32 (S.seen store.old).told (λ held. FollowsReading (λ u. (u, visits.new))
-        (visit_of held left cid.now visits.old) result) }
+    ensures says { SaysVisits S.X.block32 (S.seen store.old) visits.new (λ held. visit_of held left cid.now visits.old)
+        result }
     ensures good { IfOk result IsGoodUnixfs }
-    ensures reads { OnlyReads S.X.block32 NoneIsBad (dag_fault result) (S.seen store.old) (S.seen store.new) }
+    ensures reads { ReadsDag S.X.block32 (S.seen store.old) (S.seen store.new) result }
     ensures depth { OnOk result (1 ≤ left) }
     ensures fewer { OnOk result (visits.new + 1 ≡ visits.old) }
     ensures most { visits.old ≤ visits.new + 1 }
-    ensures touches { touches.new + visits.new ≡ touches.old + visits.old }
-    ensures touched { touches.old ≤ touches.new }
+    ensures touches { TouchesByVisit visits.old visits.new touches.old touches.new }
 {
     enter(store, cid, left, visits, touches)?;
     read_unixfs(alloc, cid, store.block())

@@ -8,4 +8,4 @@ pub returns-clause-closed : goal.returns-clause-closed
 returns-clause-closed c = λ X N p t held good small ok tree fits all. plan-closed X N p t held good small ok tree fits all
 
 pub returns-clause-reached : goal.returns-clause-reached
-returns-clause-reached c = λ X N p t held more cids good small ok tree fits all agree here. plan-reached X N p t held good small ok tree fits all more cids agree here
+returns-clause-reached c = λ X N p t held good small ok tree fits all more cids agree here. plan-reached X N p t held good small ok tree fits all more cids agree here

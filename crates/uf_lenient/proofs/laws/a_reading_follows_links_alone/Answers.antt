@@ -11,7 +11,7 @@ pub returns-clause-file : goal.returns-clause-file
 returns-clause-file c = λ left right cids limits start agree here. bytes-alike left right cids agree limits start here
 
 pub returns-clause-path : goal.returns-clause-path
-returns-clause-path c = λ left right cids limits place names start agree here. path-alike left right cids agree limits place names start here
+returns-clause-path c = λ place names left right cids limits start agree here. path-alike left right cids agree limits place names start here
 
 pub returns-clause-rest : goal.returns-clause-rest
 returns-clause-rest c = λ left right cids rest agree here. rest-alike left right cids agree rest here

@@ -14,4 +14,4 @@ pub returns-clause-rest : goal.returns-clause-rest
 returns-clause-rest c = λ held more rest all. rest-stays held more all rest
 
 pub returns-clause-path : goal.returns-clause-path
-returns-clause-path c = λ held more limits place names start all. path-stays held more all limits place names start
+returns-clause-path c = λ place names held more limits start all. path-stays held more all limits place names start
