@@ -13,6 +13,8 @@ use Rattle.clap.specs.declared.parser.matches.ArgMatches.{ArgMatches}
 use Rattle.std.specs.declared.result.Result.{Result}
 use Rattle.std.specs.declared.result.Result.TheVariants.{Ok, Err}
 use Rattle.uf_words.specs.declared.command.WordFault.{WordFault}
+use Rattle.uf_words.specs.declared.options.OptionRow.{OptionRow}
+use Rattle.uf_words.specs.declared.options.OptionRow.TheVariants.{Flag, LongFlag, Valued, ValuedShort, Argument, Optional}
 use Rattle.uf_words.specs.declared.command.WordFault.TheVariants as fault
 use Rattle.clap.specs.Simple.{App, matches_of, new_rule, new_shape}
 use Rattle.clap.specs.Faults.{fault_of}
@@ -40,6 +42,15 @@ argument name = record (new_rule name) { required = true; action = Some Set }
 -- an argument that may be absent
 abbrev pub optional_argument : List ℕ → Rule
 optional_argument name = record (new_rule name) { action = Some Set }
+
+-- what `clap` reads by an option or an argument of the table
+abbrev pub rule_in : OptionRow → Rule
+rule_in (Flag name letter) = flag name.now letter
+rule_in (LongFlag name) = long_flag name.now
+rule_in (Valued name) = valued name.now
+rule_in (ValuedShort name letter) = valued_short name.now letter
+rule_in (Argument name) = argument name.now
+rule_in (Optional name) = optional_argument name.now
 
 -- the command of `clap` that has these options and arguments, and no flag for help
 abbrev pub simple_command : List Rule → App

@@ -10,7 +10,7 @@ ghost use Rattle.clap.specs.Faults.{is_simple_and_free};
 ghost use Rattle.uf_words.specs.Commands.{ReadsWords};
 ghost use Rattle.uf_words.specs.Options.{FindsIn, argument, flag, found_by, is_flagged, is_mode, is_numeral};
 ghost use Rattle.uf_words.specs.Options.{is_octal_digit, long_flag, mode_value, numeral_value, number_or};
-ghost use Rattle.uf_words.specs.Options.{optional_argument, simple_command, valued, valued_short};
+ghost use Rattle.uf_words.specs.Options.{optional_argument, rule_in, simple_command, valued, valued_short};
 
 use crate::WordFault;
 use clap::error::ErrorKind;
@@ -84,6 +84,49 @@ pub fn optional_arg<'a>(alloc: Global, name: &'a str) -> Arg<'a>
     ensures own { result.global ≡ false }
 {
     Arg::new(alloc, name).action(ArgAction::Set)
+}
+
+/// An option or an argument of a command.
+#[derive(Clone, Copy)]
+pub enum OptionRow<'a> {
+    /// A flag, by its name or by one letter.
+    Flag(&'a str, char),
+    /// A flag, by its name alone.
+    LongFlag(&'a str),
+    /// An option with a value, by its name alone.
+    Valued(&'a str),
+    /// An option with a value, by its name or by one letter.
+    ValuedShort(&'a str, char),
+    /// An argument that has to be there.
+    Argument(&'a str),
+    /// An argument that may be absent.
+    Optional(&'a str),
+}
+
+// What `clap` makes of an option or an argument.
+fn arg_of<'a>(alloc: Global, row: OptionRow<'a>) -> Arg<'a>
+    ensures rule { rule_of result ≡ rule_in row.entry }
+    ensures own { result.global ≡ false }
+{
+    match row {
+        OptionRow::Flag(name, letter) => flag_arg(alloc, name, letter),
+        OptionRow::LongFlag(name) => long_flag_arg(alloc, name),
+        OptionRow::Valued(name) => valued_arg(alloc, name),
+        OptionRow::ValuedShort(name, letter) => valued_short_arg(alloc, name, letter),
+        OptionRow::Argument(name) => argument_arg(alloc, name),
+        OptionRow::Optional(name) => optional_arg(alloc, name),
+    }
+}
+
+// The command of `clap` with these options and arguments.
+pub fn command_of<'a>(alloc: Global, rows: &[OptionRow<'a>]) -> Result<Command<'a>, AllocError>
+    ensures { IfOk result (λ command. app_of command ≡ simple_command (map rule_in rows.entry.now)) }
+{
+    let mut command = bare_command(alloc);
+    for row in rows {
+        command = with(command, arg_of(alloc, *row))?;
+    }
+    Ok(command)
 }
 
 // What the command finds in the words.

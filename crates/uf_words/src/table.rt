@@ -3,13 +3,10 @@ ghost use Rattle.std.specs.Prelude.{◌≡◌, [], ◌∷◌, true, IfOk};
 ghost use Rattle.clap.specs.Faults.{is_simple_and_free};
 ghost use Rattle.clap.specs.Simple.{app_of};
 ghost use Rattle.uf_words.specs.Commands.{add_options, check_options, init_options, ls_options, prove_options};
-ghost use Rattle.uf_words.specs.Commands.{read_options, touch_options, write_options, write_place};
+ghost use Rattle.uf_words.specs.Commands.{read_options, touch_options, write_options};
 ghost use Rattle.uf_words.specs.Options.{argument, flag, simple_command};
 
-use crate::options::{
-    argument_arg, bare_command, flag_arg, long_flag_arg, optional_arg, valued_arg,
-    valued_short_arg, with,
-};
+use crate::options::{OptionRow, command_of};
 use clap::Command;
 use std::alloc::{AllocError, Global};
 
@@ -19,9 +16,14 @@ pub fn init_command<'a>(alloc: Global) -> Result<Command<'a>, AllocError>
     ensures made { IfOk result (λ command. app_of command ≡ init_options) }
     ensures simple { IfOk result (λ command. is_simple_and_free (app_of command) ≡ true) }
 {
-    let command = with(bare_command(alloc), valued_arg(alloc, "chunk"))?;
-    let command = with(command, valued_arg(alloc, "width"))?;
-    with(command, valued_arg(alloc, "threshold"))
+    command_of(
+        alloc,
+        &[
+            OptionRow::Valued("chunk"),
+            OptionRow::Valued("width"),
+            OptionRow::Valued("threshold"),
+        ],
+    )
 }
 
 // The options and the argument of `add`.
@@ -30,10 +32,15 @@ pub fn add_command<'a>(alloc: Global) -> Result<Command<'a>, AllocError>
     ensures made { IfOk result (λ command. app_of command ≡ add_options) }
     ensures simple { IfOk result (λ command. is_simple_and_free (app_of command) ≡ true) }
 {
-    let command = with(bare_command(alloc), flag_arg(alloc, "recursive", 'r'))?;
-    let command = with(command, flag_arg(alloc, "only-hash", 'n'))?;
-    let command = with(command, valued_arg(alloc, "to-files"))?;
-    with(command, optional_arg(alloc, "HOSTPATH"))
+    command_of(
+        alloc,
+        &[
+            OptionRow::Flag("recursive", 'r'),
+            OptionRow::Flag("only-hash", 'n'),
+            OptionRow::Valued("to-files"),
+            OptionRow::Optional("HOSTPATH"),
+        ],
+    )
 }
 
 // The flag and the argument of `files ls`.
@@ -42,8 +49,10 @@ pub fn ls_command<'a>(alloc: Global) -> Result<Command<'a>, AllocError>
     ensures made { IfOk result (λ command. app_of command ≡ ls_options) }
     ensures simple { IfOk result (λ command. is_simple_and_free (app_of command) ≡ true) }
 {
-    let command = with(bare_command(alloc), flag_arg(alloc, "long", 'l'))?;
-    with(command, optional_arg(alloc, "PATH"))
+    command_of(
+        alloc,
+        &[OptionRow::Flag("long", 'l'), OptionRow::Optional("PATH")],
+    )
 }
 
 // The options and the argument of `files read`.
@@ -52,9 +61,14 @@ pub fn read_command<'a>(alloc: Global) -> Result<Command<'a>, AllocError>
     ensures made { IfOk result (λ command. app_of command ≡ read_options) }
     ensures simple { IfOk result (λ command. is_simple_and_free (app_of command) ≡ true) }
 {
-    let command = with(bare_command(alloc), valued_short_arg(alloc, "offset", 'o'))?;
-    let command = with(command, valued_short_arg(alloc, "count", 'n'))?;
-    with(command, argument_arg(alloc, "PATH"))
+    command_of(
+        alloc,
+        &[
+            OptionRow::ValuedShort("offset", 'o'),
+            OptionRow::ValuedShort("count", 'n'),
+            OptionRow::Argument("PATH"),
+        ],
+    )
 }
 
 // The options and the argument of `files write`.
@@ -63,20 +77,16 @@ pub fn write_command<'a>(alloc: Global) -> Result<Command<'a>, AllocError>
     ensures made { IfOk result (λ command. app_of command ≡ write_options) }
     ensures simple { IfOk result (λ command. is_simple_and_free (app_of command) ≡ true) }
 {
-    let command = with(
-        write_place_command(alloc)?,
-        valued_short_arg(alloc, "hex", 'x'),
-    )?;
-    with(command, argument_arg(alloc, "PATH"))
-}
-
-// Where and how `files write` writes.
-fn write_place_command<'a>(alloc: Global) -> Result<Command<'a>, AllocError>
-    ensures { IfOk result (λ command. app_of command ≡ simple_command write_place) }
-{
-    let command = with(bare_command(alloc), valued_short_arg(alloc, "offset", 'o'))?;
-    let command = with(command, flag_arg(alloc, "create", 'e'))?;
-    with(command, flag_arg(alloc, "truncate", 't'))
+    command_of(
+        alloc,
+        &[
+            OptionRow::ValuedShort("offset", 'o'),
+            OptionRow::Flag("create", 'e'),
+            OptionRow::Flag("truncate", 't'),
+            OptionRow::ValuedShort("hex", 'x'),
+            OptionRow::Argument("PATH"),
+        ],
+    )
 }
 
 // The option and the arguments of `files touch`.
@@ -85,9 +95,14 @@ pub fn touch_command<'a>(alloc: Global) -> Result<Command<'a>, AllocError>
     ensures made { IfOk result (λ command. app_of command ≡ touch_options) }
     ensures simple { IfOk result (λ command. is_simple_and_free (app_of command) ≡ true) }
 {
-    let command = with(bare_command(alloc), valued_arg(alloc, "nanos"))?;
-    let command = with(command, argument_arg(alloc, "SECONDS"))?;
-    with(command, argument_arg(alloc, "PATH"))
+    command_of(
+        alloc,
+        &[
+            OptionRow::Valued("nanos"),
+            OptionRow::Argument("SECONDS"),
+            OptionRow::Argument("PATH"),
+        ],
+    )
 }
 
 // The flag and the argument of `prove`.
@@ -96,8 +111,10 @@ pub fn prove_command<'a>(alloc: Global) -> Result<Command<'a>, AllocError>
     ensures made { IfOk result (λ command. app_of command ≡ prove_options) }
     ensures simple { IfOk result (λ command. is_simple_and_free (app_of command) ≡ true) }
 {
-    let command = with(bare_command(alloc), long_flag_arg(alloc, "absent"))?;
-    with(command, argument_arg(alloc, "PATH"))
+    command_of(
+        alloc,
+        &[OptionRow::LongFlag("absent"), OptionRow::Argument("PATH")],
+    )
 }
 
 // The flag and the arguments of `check`.
@@ -106,9 +123,14 @@ pub fn check_command<'a>(alloc: Global) -> Result<Command<'a>, AllocError>
     ensures made { IfOk result (λ command. app_of command ≡ check_options) }
     ensures simple { IfOk result (λ command. is_simple_and_free (app_of command) ≡ true) }
 {
-    let command = with(bare_command(alloc), long_flag_arg(alloc, "absent"))?;
-    let command = with(command, argument_arg(alloc, "CID"))?;
-    with(command, argument_arg(alloc, "PATH"))
+    command_of(
+        alloc,
+        &[
+            OptionRow::LongFlag("absent"),
+            OptionRow::Argument("CID"),
+            OptionRow::Argument("PATH"),
+        ],
+    )
 }
 
 // One argument.
@@ -117,7 +139,7 @@ pub fn one_argument_command<'a>(alloc: Global, name: &'a str) -> Result<Command<
     ensures made { IfOk result (λ command. app_of command ≡ simple_command (argument name.entry.now ∷ [])) }
     ensures simple { IfOk result (λ command. is_simple_and_free (app_of command) ≡ true) }
 {
-    with(bare_command(alloc), argument_arg(alloc, name))
+    command_of(alloc, &[OptionRow::Argument(name)])
 }
 
 // Two arguments.
@@ -131,8 +153,10 @@ pub fn two_arguments_command<'a>(
         ≡ simple_command (argument first.entry.now ∷ argument second.entry.now ∷ [])) }
     ensures simple { IfOk result (λ command. is_simple_and_free (app_of command) ≡ true) }
 {
-    let command = with(bare_command(alloc), argument_arg(alloc, first))?;
-    with(command, argument_arg(alloc, second))
+    command_of(
+        alloc,
+        &[OptionRow::Argument(first), OptionRow::Argument(second)],
+    )
 }
 
 // A flag and one argument.
@@ -147,6 +171,8 @@ pub fn flagged_command<'a>(
         ≡ simple_command (flag name.entry.now letter ∷ argument value.entry.now ∷ [])) }
     ensures simple { IfOk result (λ command. is_simple_and_free (app_of command) ≡ true) }
 {
-    let command = with(bare_command(alloc), flag_arg(alloc, name, letter))?;
-    with(command, argument_arg(alloc, value))
+    command_of(
+        alloc,
+        &[OptionRow::Flag(name, letter), OptionRow::Argument(value)],
+    )
 }
