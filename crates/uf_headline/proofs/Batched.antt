@@ -131,7 +131,7 @@ module _ (X : List ℕ → List ℕ) (N : List ℕ → ℕ) (host : HostTree) wh
 
   cut-not : (line : List ℕ) (given : Status) (a b : Scene) → LineCut X N line given a b → NothingFails a.around b.around → ⊥
   cut-not line given a b e h =
-      rose-not-stood e.printed.faults b.around.writes e.cut.counted (fails-last a.around (with_sinks e.printed e.between b).around b.around e.done.runs.counted (cut-counted (mark e.was) e.printed e.between b e.cut) h).output
+      rose-not-stood e.printed.faults b.around.writes e.cut.counted (fails-last a.around (with_sinks e.printed e.between b).around b.around e.done.runs.faults.counted (cut-counted (mark e.was) e.printed e.between b e.cut) h).output
 
   module _ (given : Status) (memory : given ≢ status.Memory) (b : Scene) where
     -- the end
@@ -142,7 +142,7 @@ module _ (X : List ℕ → List ℕ) (N : List ℕ → ℕ) (host : HostTree) wh
     ends-steps ByMemory a s e on h = no-steps a b e.same
     ends-steps (AtLine line) a s (inl e) on h =
         behind-step line [] a (before-mark e.printed b) b b refl
-        (line-step line given a (before-mark e.printed b) e.done memory (fails-first a.around (before-mark e.printed b).around b.around e.done.runs.counted (last-counted X N line given a b e) h) s on)
+        (line-step line given a (before-mark e.printed b) e.done memory (fails-first a.around (before-mark e.printed b).around b.around e.done.runs.faults.counted (last-counted X N line given a b e) h) s on)
         (no-steps b b refl)
     ends-steps (AtLine line) a s (inr e) on h = absurd (cut-not line given a b e h)
 
@@ -150,7 +150,7 @@ module _ (X : List ℕ → List ℕ) (N : List ℕ → ℕ) (host : HostTree) wh
     passed-step : (line : List ℕ) (a c : Scene) (s : Standing) (p : LinePassed X N line a c) → NoneFalls c.around b.around → GoesOn a s → NothingFails a.around b.around → StepOf line a (before-mark p.printed c)
     passed-step line a c s p late on h =
         line-step line p.given a (before-mark p.printed c) p.done (goes-on-not p.given p.goes_on)
-        (fails-first a.around (before-mark p.printed c).around c.around p.done.runs.counted (whole-counted (mark p.given) p.printed c.errors c p.marked) (fails-first a.around c.around b.around (gone-counted X N line a c (inr p)) late h)) s on
+        (fails-first a.around (before-mark p.printed c).around c.around p.done.runs.faults.counted (whole-counted (mark p.given) p.printed c.errors c p.marked) (fails-first a.around c.around b.around (gone-counted X N line a c (inr p)) late h)) s on
 
     module _ (ending : Ending X N) (m : Scene) (ends : EndsSo X N ending given m b) where
       late-counted : (lines : List (List ℕ)) (c : Scene) → LinesDone X N lines c m → NoneFalls c.around b.around

@@ -85,15 +85,15 @@ module _ (X : List ℕ → List ℕ) (N : List ℕ → ℕ) where
     module _ (g : Status) (given : Given g) (store : g ≡ status.StoreFault → ⊥) (clash : g ≡ status.Clash → ⊥) (memory : g ≡ status.Memory → ⊥) where
       calm : Calm step.before.around.store step.now.around.store
       calm = record {
-        faults = stood-still _ _ c.runs.counted.store.faults (λ more. not-both step.given g status.StoreFault given (c.runs.faults_told more) store) c.tells.store.faults;
-        clashes = stood-still _ _ c.runs.counted.store.clashes (λ more. not-one step.given g status.Clash status.Memory given clash memory (c.runs.clashes_told more)) c.tells.store.clashes;
+        faults = stood-still _ _ c.runs.faults.counted.store.faults (λ more. not-both step.given g status.StoreFault given (c.runs.faults.store more) store) c.tells.store.faults;
+        clashes = stood-still _ _ c.runs.faults.counted.store.clashes (λ more. not-one step.given g status.Clash status.Memory given clash memory (c.runs.faults.clashes more)) c.tells.store.clashes;
       }
 
       module _ (read : g ≡ status.ReadFault → ⊥) where
         outside : HasOutside step.asked step.outside step.before.around step.now.around
         outside = (
-          λ reads. ((c.tells.input reads).0, stood-still _ _ c.runs.counted.reads (λ more. not-both step.given g status.ReadFault given (c.runs.read_told (inl more)) read) (c.tells.input reads).1),
-          λ uses. ((c.tells.host uses).0, stood-still _ _ c.runs.counted.host_reads (λ more. not-both step.given g status.ReadFault given (c.runs.read_told (inr more)) read) (c.tells.host uses).1),
+          λ reads. ((c.tells.input reads).0, stood-still _ _ c.runs.faults.counted.reads (λ more. not-both step.given g status.ReadFault given (c.runs.faults.reads (inl more)) read) (c.tells.input reads).1),
+          λ uses. ((c.tells.host uses).0, stood-still _ _ c.runs.faults.counted.host_reads (λ more. not-both step.given g status.ReadFault given (c.runs.faults.reads (inr more)) read) (c.tells.host uses).1),
           c.tells.pins,
         )
 
@@ -101,8 +101,8 @@ module _ (X : List ℕ → List ℕ) (N : List ℕ → ℕ) where
         quiet write = record {
           store = calm;
           written = record {
-            output = wrote-none _ _ c.runs.counted.writes (λ more. not-both step.given g status.WriteFault given (c.runs.write_told (inl more)) write) c.tells.output;
-            host = λ writes. stood-still _ _ c.runs.counted.host_writes (λ more. not-both step.given g status.WriteFault given (c.runs.write_told (inr more)) write) (c.tells.written writes);
+            output = wrote-none _ _ c.runs.faults.counted.writes (λ more. not-both step.given g status.WriteFault given (c.runs.faults.writes (inl more)) write) c.tells.output;
+            host = λ writes. stood-still _ _ c.runs.faults.counted.host_writes (λ more. not-both step.given g status.WriteFault given (c.runs.faults.writes (inr more)) write) (c.tells.written writes);
           };
           own = λ generates is. not-both step.given g status.Clash given is clash;
         }
@@ -152,7 +152,7 @@ module _ (X : List ℕ → List ℕ) (N : List ℕ → ℕ) where
         where
           by : (b : Bool) → may_move step.asked step.given ≡ b → TellsAs X N (told_after step) (cond b (replied_by X N step.asked step.outside step.held s) s)
           by true may = moves step.given refl may
-          by false may = stands-kept X N (told_before step) (told_after step) s c.runs.good (c.runs.head may) t
+          by false may = stands-kept X N (told_before step) (told_after step) s c.runs.left.good (c.runs.left.head may) t
 
   -- ---- calls
 
@@ -211,7 +211,7 @@ module _ (X : List ℕ → List ℕ) (N : List ℕ → ℕ) where
       whole-stands = subst (TellsAs X N (Some whole)) after-tree.1 (subst (λ x. TellsAs X N x (after_call X N step (Stands p es))) last (call-stands step c (Stands p es) before-stands))
 
       written : WritesFor X step.asked (is_done step.given) (Some a) (Some whole)
-      written = subst (λ x. WritesFor X step.asked (is_done step.given) x (Some whole)) first (subst (λ x. WritesFor X step.asked (is_done step.given) (told_before step) x) last c.runs.writes)
+      written = subst (λ x. WritesFor X step.asked (is_done step.given) x (Some whole)) first (subst (λ x. WritesFor X step.asked (is_done step.given) (told_before step) x) last c.runs.left.writes)
 
       ends : IsSafeFor X N whole p next × EachStop (LeavesEither X N p es p next) a whole
       ends = words-end X N hash small a p p es next safe step.asked (is_done step.given) whole written whole-stands
@@ -285,7 +285,7 @@ module _ (X : List ℕ → List ℕ) (N : List ℕ → ℕ) where
     stays = record { names = names; last = agrees }
 
     kept-names : may_move step.asked step.given ≡ false → NamesOver X N (told_after step) p es
-    kept-names may = record { head = subst (λ n. IsHeadNote n p (entry X N p (Dir es)).cid) (sym (c.runs.head may)) names.head; root = record { plan = names.root.plan; agrees = agrees } }
+    kept-names may = record { head = subst (λ n. IsHeadNote n p (entry X N p (Dir es)).cid) (sym (c.runs.left.head may)) names.head; root = record { plan = names.root.plan; agrees = agrees } }
 
     done-names : step.given ≡ status.Ok → NamesTree X N (told_after step) (replied_by X N step.asked step.outside step.held (Stands p es))
     done-names given = by (c.runs.lost p es rows.0 step.held step.outside stays c.held rows.1 (ok-outside step c given) (ok-quiet step c given))

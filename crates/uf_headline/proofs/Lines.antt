@@ -93,16 +93,16 @@ module _ (X : List ℕ → List ℕ) (N : List ℕ → ℕ) (host : HostTree) wh
     -- where the batch goes on, no count rose
     begins-next : ends_batch given ≡ false → Begins b
     begins-next on = record {
-      told = done.runs.host_told suits.1 ∙ begin.told;
+      told = done.runs.left.host suits.1 ∙ begin.told;
       room = record {
         store = record {
-          faults = rises-still _ _ done.runs.counted.store.faults (λ more. goes-on given status.StoreFault on refl (done.runs.faults_told more)) begin.room.store.faults;
-          clashes = rises-still _ _ done.runs.counted.store.clashes (λ more. either-not status.Clash status.Memory (goes-on given status.Clash on refl) (goes-on given status.Memory on refl) (done.runs.clashes_told more)) begin.room.store.clashes;
+          faults = rises-still _ _ done.runs.faults.counted.store.faults (λ more. goes-on given status.StoreFault on refl (done.runs.faults.store more)) begin.room.store.faults;
+          clashes = rises-still _ _ done.runs.faults.counted.store.clashes (λ more. either-not status.Clash status.Memory (goes-on given status.Clash on refl) (goes-on given status.Memory on refl) (done.runs.faults.clashes more)) begin.room.store.clashes;
         };
-        output = wrote-still _ _ done.runs.counted.writes (λ more. goes-on given status.WriteFault on refl (done.runs.write_told (inl more))) begin.room.output;
-        host = rises-still _ _ done.runs.counted.host_reads (λ more. goes-on given status.ReadFault on refl (done.runs.read_told (inr more))) begin.room.host;
+        output = wrote-still _ _ done.runs.faults.counted.writes (λ more. goes-on given status.WriteFault on refl (done.runs.faults.writes (inl more))) begin.room.output;
+        host = rises-still _ _ done.runs.faults.counted.host_reads (λ more. goes-on given status.ReadFault on refl (done.runs.faults.reads (inr more))) begin.room.host;
       };
-      some = done.runs.good.alike ∙ begin.some;
+      some = done.runs.left.good.alike ∙ begin.some;
     }
 
   -- ---- all lines

@@ -18,7 +18,8 @@ ghost use Rattle.uf_tree.specs.Standing.{IsHeadNote, Standing, Stands};
 ghost use Rattle.uf_tree.specs.Tree.{Dir, Entries, is_tree};
 ghost use Rattle.uf_tree.specs.TreePlan.{entry};
 ghost use Rattle.uf_tree.specs.declared.profile.Profile.{Profile};
-ghost use Rattle.uf_headline.specs.History.{AddsAfresh, History, IsOfVersion1, Makes, PrintsLast, Step, standing_after};
+ghost use Rattle.uf_headline.specs.History.{AddsAfresh, History, IsOfVersion1, Makes, PrintsLast, Step};
+ghost use Rattle.uf_headline.specs.History.{standing_after};
 ghost use Rattle.uf_headline.specs.Places.{place_at};
 
 pub use batches::{a_batch_is_a_history, a_batch_is_a_list_of_calls};

@@ -31,20 +31,20 @@ module _ (X : List ℕ → List ℕ) (N : List ℕ → ℕ) (Says : List ℕ →
 
   pub input-stays : Runs Says X N (Ok (Add false)) status.Ok before now → KeepsInput X before now a b
   input-stays runs =
-      let p = printed (Ok (Add false)) runs.prints in
+      let p = printed (Ok (Add false)) runs.printed.text in
       record {
         text = p.0;
         row = p.1;
         printed = p.2;
-        stays = add-stops X a b (file_plan X p.1.profile none p.1.bytes).blocks plain (synced runs.writes) p.1.held;
+        stays = add-stops X a b (file_plan X p.1.profile none p.1.bytes).blocks plain (synced runs.left.writes) p.1.held;
       }
 
   pub hosted-stays : (recursive : Bool) (path : List ℕ) → Runs Says X N (Ok (AddFrom recursive false path)) status.Ok before now → KeepsHosted X N recursive path before now a b
   hosted-stays recursive path runs =
-      let p = printed (Ok (AddFrom recursive false path)) runs.prints in
+      let p = printed (Ok (AddFrom recursive false path)) runs.printed.text in
       record {
         text = p.0;
         rows = p.1;
         printed = p.2;
-        stays = add-stops X a b (blocks X N p.1.profile p.1.tree) plain (synced runs.writes) p.1.held;
+        stays = add-stops X a b (blocks X N p.1.profile p.1.tree) plain (synced runs.left.writes) p.1.held;
       }

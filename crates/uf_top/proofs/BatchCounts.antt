@@ -56,7 +56,7 @@ is-write-fault status.NotReady = inr (λ e. cc)
 module _ (X : List ℕ → List ℕ) (N : List ℕ → ℕ) where
   pub passed-counted : (line : List ℕ) (a b : Scene) → LinePassed X N line a b → NoneFalls a.around b.around
   passed-counted line a b passed =
-      none-then a.around (with_sinks passed.printed b.errors b).around b.around passed.done.runs.counted (whole-counted (mark passed.given) passed.printed b.errors b passed.marked)
+      none-then a.around (with_sinks passed.printed b.errors b).around b.around passed.done.runs.faults.counted (whole-counted (mark passed.given) passed.printed b.errors b passed.marked)
 
   pub gone-counted : (line : List ℕ) (a b : Scene) → LineGone X N line a b → NoneFalls a.around b.around
   gone-counted line a b (inl none) = none-same a.around b.around (ap (λ (s : Scene). s.around) none.1)
@@ -83,5 +83,5 @@ module _ (X : List ℕ → List ℕ) (N : List ℕ → ℕ) where
   ends-counted TooLong given a b e = none-same a.around b.around e.same
   ends-counted ByReading given a b e = none-same a.around b.around e.same
   ends-counted ByMemory given a b e = none-same a.around b.around e.same
-  ends-counted (AtLine line) given a b (inl e) = none-then a.around (with_sinks e.printed b.errors b).around b.around e.done.runs.counted (last-counted line given a b e)
-  ends-counted (AtLine line) given a b (inr e) = none-then a.around (with_sinks e.printed e.between b).around b.around e.done.runs.counted (cut-counted (mark e.was) e.printed e.between b e.cut)
+  ends-counted (AtLine line) given a b (inl e) = none-then a.around (with_sinks e.printed b.errors b).around b.around e.done.runs.faults.counted (last-counted line given a b e)
+  ends-counted (AtLine line) given a b (inr e) = none-then a.around (with_sinks e.printed e.between b).around b.around e.done.runs.faults.counted (cut-counted (mark e.was) e.printed e.between b e.cut)

@@ -62,11 +62,11 @@ module _ (X : List ℕ → List ℕ) (N : List ℕ → ℕ) where
   -- nothing failed in a command after which a batch goes on
   runs-still : (Says : List ℕ → Type 0) (asked : Result Command Refusal) (given : Status) (a b : Around) → Runs Says X N asked given a b → ends_batch given ≡ false → Still a b
   runs-still Says asked given a b r on = record {
-    faults = not-less a.store.faults b.store.faults (λ less. other given status.StoreFault on refl (r.faults_told less));
-    clashes = not-less a.store.clashes b.store.clashes (λ less. clashed (r.clashes_told less));
-    host_reads = not-less a.host.reads b.host.reads (λ less. other given status.ReadFault on refl (r.read_told (inr less)));
-    host_writes = not-less a.host.writes b.host.writes (λ less. other given status.WriteFault on refl (r.write_told (inr less)));
-    writes = not-less a.writes b.writes (λ less. other given status.WriteFault on refl (r.write_told (inl less)));
+    faults = not-less a.store.faults b.store.faults (λ less. other given status.StoreFault on refl (r.faults.store less));
+    clashes = not-less a.store.clashes b.store.clashes (λ less. clashed (r.faults.clashes less));
+    host_reads = not-less a.host.reads b.host.reads (λ less. other given status.ReadFault on refl (r.faults.reads (inr less)));
+    host_writes = not-less a.host.writes b.host.writes (λ less. other given status.WriteFault on refl (r.faults.writes (inr less)));
+    writes = not-less a.writes b.writes (λ less. other given status.WriteFault on refl (r.faults.writes (inl less)));
   }
     where
       clashed : (given ≡ status.Clash) ⊎ (given ≡ status.Memory) → ⊥
@@ -107,10 +107,10 @@ module _ (X : List ℕ → List ℕ) (N : List ℕ → ℕ) where
 
   line-told : (line : List ℕ) (given : Status) (m b : Scene) → LineEnds X N line given m b → EndsTold (AtLine line) given m.around b.around
   line-told line given m b e = record {
-    failed = λ less. e.done.runs.faults_told less;
-    clashed = λ less. e.done.runs.clashes_told less;
-    host_read = λ less. e.done.runs.read_told (inr less);
-    host_written = λ less. e.done.runs.write_told (inr less);
+    failed = λ less. e.done.runs.faults.store less;
+    clashed = λ less. e.done.runs.faults.clashes less;
+    host_read = λ less. e.done.runs.faults.reads (inr less);
+    host_written = λ less. e.done.runs.faults.writes (inr less);
     written = λ less. inr (line, refl, e.ends);
   }
 

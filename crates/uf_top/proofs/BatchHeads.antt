@@ -46,7 +46,7 @@ module _ (X : List ℕ → List ℕ) (N : List ℕ → ℕ) where
     where
       by : (may : Bool) → may_move done.asked given ≡ may → (head-of b ≡ head-of a) ⊎ (may_move done.asked given ≡ true)
       by true is = inr is
-      by false is = inl (done.runs.head is)
+      by false is = inl (done.runs.left.head is)
 
   abbrev Moves : List (List ℕ) → Ending X N → Scene → Told → Type 0
   Moves lines ending a now = (head_in now ≡ head-of a) ⊎ MovesByLine X N lines ending a now

@@ -210,15 +210,15 @@ module _ (X : List ℕ → List ℕ) (N : List ℕ → ℕ) (host : HostTree) wh
 
     calm : Quiet given → Calm a.around.store b.around.store
     calm quiet = record {
-      faults = still-stood a.around.store.faults b.around.store.faults done.runs.counted.store.faults (λ more. quiet.0 (done.runs.faults_told more)) begin.room.store.faults;
-      clashes = still-stood a.around.store.clashes b.around.store.clashes done.runs.counted.store.clashes (λ more. never status.Clash quiet.2 quiet.1 (done.runs.clashes_told more)) begin.room.store.clashes;
+      faults = still-stood a.around.store.faults b.around.store.faults done.runs.faults.counted.store.faults (λ more. quiet.0 (done.runs.faults.store more)) begin.room.store.faults;
+      clashes = still-stood a.around.store.clashes b.around.store.clashes done.runs.faults.counted.store.clashes (λ more. never status.Clash quiet.2 quiet.1 (done.runs.faults.clashes more)) begin.room.store.clashes;
     }
 
     host-read : Quiet given → Stood a.around.host.reads b.around.host.reads
-    host-read quiet = still-stood a.around.host.reads b.around.host.reads done.runs.counted.host_reads (λ more. quiet.3 (done.runs.read_told (inr more))) begin.room.host
+    host-read quiet = still-stood a.around.host.reads b.around.host.reads done.runs.faults.counted.host_reads (λ more. quiet.3 (done.runs.faults.reads (inr more))) begin.room.host
 
     wrote-all : (given ≡ status.WriteFault → ⊥) → Stood a.around.writes b.around.writes
-    wrote-all other = still-wrote a.around.writes b.around.writes done.runs.counted.writes (λ more. other (done.runs.write_told (inl more))) begin.room.output
+    wrote-all other = still-wrote a.around.writes b.around.writes done.runs.faults.counted.writes (λ more. other (done.runs.faults.writes (inl more))) begin.room.output
 
     nothing-fails : Quiet given → (given ≡ status.WriteFault → ⊥) → NothingFails a.around b.around
     nothing-fails quiet other = record { store = calm quiet; output = wrote-all other; host = host-read quiet }
@@ -226,11 +226,11 @@ module _ (X : List ℕ → List ℕ) (N : List ℕ → ℕ) (host : HostTree) wh
     room-later : Quiet given → (given ≡ status.WriteFault → ⊥) → AllCanRise b.around
     room-later quiet other = (let h = nothing-fails quiet other in record {
       store = record {
-        faults = rise-later a.around.store.faults b.around.store.faults done.runs.counted.store.faults h.store.faults;
-        clashes = rise-later a.around.store.clashes b.around.store.clashes done.runs.counted.store.clashes h.store.clashes;
+        faults = rise-later a.around.store.faults b.around.store.faults done.runs.faults.counted.store.faults h.store.faults;
+        clashes = rise-later a.around.store.clashes b.around.store.clashes done.runs.faults.counted.store.clashes h.store.clashes;
       };
-      output = rise-wrote a.around.writes b.around.writes done.runs.counted.writes h.output;
-      host = rise-later a.around.host.reads b.around.host.reads done.runs.counted.host_reads h.host;
+      output = rise-wrote a.around.writes b.around.writes done.runs.faults.counted.writes h.output;
+      host = rise-later a.around.host.reads b.around.host.reads done.runs.faults.counted.host_reads h.host;
     })
 
     -- ---- the tree after it
@@ -275,7 +275,7 @@ module _ (X : List ℕ → List ℕ) (N : List ℕ → ℕ) (host : HostTree) wh
     after-moved status.NotReady is may = absurd cc
 
     next-tree : (head_in b.around.store.told ≡ head_in a.around.store.told) ⊎ (may_move done.asked given ≡ true) → NextTree
-    next-tree (inl same) = (p, es, stands-kept X N a.around.store.told b.around.store.told (Stands p es) done.runs.good same stands)
+    next-tree (inl same) = (p, es, stands-kept X N a.around.store.told b.around.store.told (Stands p es) done.runs.left.good same stands)
     next-tree (inr may) = after-moved given refl may
 
     -- ---- each stop in it
@@ -296,7 +296,7 @@ module _ (X : List ℕ → List ℕ) (N : List ℕ → ℕ) (host : HostTree) wh
       line-safe = by (next-tree (head-or X N line given a b done))
         where
           writes : (d : Contents) → b.around.store.told ≡ Some d → WritesFor X done.asked (is_done given) (Some c) (Some d)
-          writes d told = subst (λ t. WritesFor X done.asked (is_done given) t (Some d)) begin.told (subst (λ t. WritesFor X done.asked (is_done given) a.around.store.told t) told done.runs.writes)
+          writes d told = subst (λ t. WritesFor X done.asked (is_done given) t (Some d)) begin.told (subst (λ t. WritesFor X done.asked (is_done given) a.around.store.told t) told done.runs.left.writes)
 
           with-it : (q : Profile) (fs : Entries) → TellsAs X N b.around.store.told (Stands q fs) → ((d : Contents) × (b.around.store.told ≡ Some d)) → LineSafe
           with-it q fs now d0 =

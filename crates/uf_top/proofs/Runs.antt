@@ -24,26 +24,36 @@ module _ (Says : List ℕ → Type 0) (given : Status) (X : List ℕ → List �
     unprinted = λ w after is finds outside calm. unprinted-told Says given X N a b asked done s t w after is finds outside calm;
     lost = λ p es rows held outside named tells heights has quiet.
         lost-told Says given X N a b p es asked done s t rows held outside named tells heights has quiet.store quiet.written quiet.own;
-    kinds = kinds-told Says given asked done kinds t;
-    words = λ why is. (let idle = subst (λ asked. Serves X N asked done a b) is s in is-refused Says given done why t idle.refused);
-    lines = says-plain Says given done t;
-    cause = shows Says given X N a b asked done of-words s sections kinds t;
-    faults_told = λ more. faults-told Says given X N a b asked done s t more;
-    clashes_told = λ more. clashes-told Says given X N a b asked done s t more;
-    read_told = λ more. read-told Says given X N a b asked done s t more;
-    write_told = λ more. write-told Says given X N a b asked done s t more;
-    counted = counted-of X N a b asked done s;
-    prefix = λ w finds outside room. prefix-told Says given X N a b asked done s w finds outside room;
-    prints = prints-told Says given X N a b asked done of-words s t;
-    synced = λ is. synced-told Says given X N a b asked done s t is;
-    writes = writes-told Says given X N a b asked done s t;
-    good = good-told Says given X N a b asked done s;
-    head = λ unmoved. head-told Says given X N a b asked done s t unmoved;
-    told = λ is. told-same Says given X N a b asked done s is;
-    idle = λ p es bytes names input faults is. idle-told Says given X N a b asked done s p es bytes names input faults is;
-    host_told = λ is. host-told Says given X N a b asked done s is;
-    gets = gets-told Says given X N a b asked done s t;
-    pins = pins-told Says given X N a b asked done s t;
-    touches = λ p es bytes rows named input heights calm. touches-told Says given X N a b p es bytes rows asked done s named input heights calm;
-    touched = λ is. blamed-told Says given X N a b asked done of-words s t is;
+    answered = record {
+      kinds = kinds-told Says given asked done kinds t;
+      words = λ why is. (let idle = subst (λ asked. Serves X N asked done a b) is s in is-refused Says given done why t idle.refused);
+      lines = says-plain Says given done t;
+      cause = shows Says given X N a b asked done of-words s sections kinds t;
+    };
+    faults = record {
+      store = λ more. faults-told Says given X N a b asked done s t more;
+      clashes = λ more. clashes-told Says given X N a b asked done s t more;
+      reads = λ more. read-told Says given X N a b asked done s t more;
+      writes = λ more. write-told Says given X N a b asked done s t more;
+      counted = counted-of X N a b asked done s;
+    };
+    printed = record {
+      prefix = λ w finds outside room. prefix-told Says given X N a b asked done s w finds outside room;
+      text = prints-told Says given X N a b asked done of-words s t;
+      synced = λ is. synced-told Says given X N a b asked done s t is;
+    };
+    left = record {
+      writes = writes-told Says given X N a b asked done s t;
+      good = good-told Says given X N a b asked done s;
+      head = λ unmoved. head-told Says given X N a b asked done s t unmoved;
+      told = λ is. told-same Says given X N a b asked done s is;
+      idle = λ p es bytes names input faults is. idle-told Says given X N a b asked done s p es bytes names input faults is;
+      host = λ is. host-told Says given X N a b asked done s is;
+      gets = gets-told Says given X N a b asked done s t;
+      pins = pins-told Says given X N a b asked done s t;
+    };
+    touched = record {
+      most = λ p es bytes rows named input heights calm. touches-told Says given X N a b p es bytes rows asked done s named input heights calm;
+      bad = λ is. blamed-told Says given X N a b asked done of-words s t is;
+    };
   }

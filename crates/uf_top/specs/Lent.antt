@@ -4,6 +4,7 @@ use Rattle.std.specs.declared.option.Option.TheVariants.{Some}
 use Rattle.uf_edge.specs.declared.host.Host.{Ghosts as HostGhosts}
 use Rattle.uf_edge.specs.declared.streams.Sink.{Ghosts as SinkGhosts}
 use Rattle.uf_edge.specs.declared.streams.Source.{Ghosts as SourceGhosts}
+use Rattle.uf_edge.specs.Streams as streams
 use Rattle.uf_store.specs.Seen.{Seen}
 use Rattle.uf_command.specs.Telling.{IsSent}
 use Rattle.uf_top.specs.Around.{Around, HostSide, around, host_side}
@@ -41,3 +42,36 @@ line_at o w e seen output touches host errors =
 -- the line went to `errors` from one moment to the next, or a part of it where its count rose
 abbrev pub SaidTo : {E : Type 0} → SinkGhosts E → E → E → List ℕ → Type 0
 SaidTo e before now line = IsSent line (e.holds before) (e.holds now) (e.faults before) (e.faults now)
+
+-- this holds of the moments before and after, with a store and touches, whatever else stands around
+abbrev pub OverStore : (Around → Around → Type 0) → Seen → ℕ → Seen → ℕ → Type 0
+OverStore did was from now to =
+    (left : streams.Told) (reads : ℕ) (held : streams.Told) (writes : ℕ) (host : HostSide)
+    → did (around was left reads held writes from host) (around now left reads held writes to host)
+
+-- the same with a host
+abbrev pub OverHost : {W : Type 0} → HostGhosts W → (Around → Around → Type 0) → Seen → ℕ → W → Seen → ℕ → W → Type 0
+OverHost w did was from host now to host_now =
+    (left : streams.Told) (reads : ℕ) (held : streams.Told) (writes : ℕ)
+    → did (around was left reads held writes from (side_at w host)) (around now left reads held writes to (side_at w host_now))
+
+-- the same with an input
+abbrev pub OverInput : {I : Type 0} → SourceGhosts I → (Around → Around → Type 0) → Seen → I → ℕ → Seen → I → ℕ → Type 0
+OverInput i did was input from now rest to =
+    (held : streams.Told) (writes : ℕ) (host : HostSide)
+    → did (around was (i.left input) (i.faults input) held writes from host)
+    (around now (i.left rest) (i.faults rest) held writes to host)
+
+-- the same with an output
+abbrev pub OverOutput : {O : Type 0} → SinkGhosts O → (Around → Around → Type 0) → Seen → O → ℕ → Seen → O → ℕ → Type 0
+OverOutput o did was output from now written to =
+    (left : streams.Told) (reads : ℕ) (host : HostSide)
+    → did (around was left reads (o.holds output) (o.faults output) from host)
+    (around now left reads (o.holds written) (o.faults written) to host)
+
+-- the same with an input and an output
+abbrev pub OverStreams : {I O : Type 0} → SourceGhosts I → SinkGhosts O → (Around → Around → Type 0)
+    → Seen → I → O → ℕ → Seen → I → O → ℕ → Type 0
+OverStreams i o did was input output from now rest written to = (host : HostSide)
+    → did (around was (i.left input) (i.faults input) (o.holds output) (o.faults output) from host)
+    (around now (i.left rest) (i.faults rest) (o.holds written) (o.faults written) to host)

@@ -33,6 +33,64 @@ use Rattle.uf_tree.specs.declared.profile.Profile.{Profile}
 
 -- Says holds of the line that went to `errors`
 module _ (Says : List ℕ → Type 0) (X : List ℕ → List ℕ) (N : List ℕ → ℕ) where
+  -- over every store an answer is of a kind that the command may answer: so `init`, `add`, `dag import` and `gen` look
+  -- for no block, and one that writes nothing to the store meets no clash there. Words that are no command, and texts
+  -- that are no paths, are refused. Each other answer has its cause, and its line goes to `errors`
+  pub record IsAnswered (asked : Result Command Refusal) (given : Status) (before now : Around) : Type 0 where
+    pub kinds : of_command (λ command. may_give command given) true asked ≡ true
+    pub words : (why : Refusal) → asked ≡ Err why → IsRefusedBy Says why given
+    pub lines : SaysPlain Says given
+    pub cause : StatusShows Says X N before now asked given
+
+-- a count of failures, or of clashes, that rose has its answer, and no count falls
+pub record TellsFaults (given : Status) (before now : Around) : Type 0 where
+  pub store : before.store.faults < now.store.faults → given ≡ status.StoreFault
+  pub clashes : before.store.clashes < now.store.clashes → (given ≡ status.Clash) ⊎ (given ≡ status.Memory)
+  pub reads : (before.reads < now.reads) ⊎ (before.host.reads < now.host.reads) → given ≡ status.ReadFault
+  pub writes : (before.writes < now.writes) ⊎ (before.host.writes < now.host.writes) → given ≡ status.WriteFault
+  pub counted : NoneFalls before now
+
+module _ (X : List ℕ → List ℕ) (N : List ℕ → ℕ) where
+  -- what is printed is printed whole at Ok, in part after a failed write, and else not at all, unless the command
+  -- writes while it reads blocks; of `add` it is the row of the input or the rows of what the host has, whose blocks
+  -- are held and durable, over every store that tells; of `dag import` the roots of a CAR whose blocks, and no
+  -- others, were added. Whatever the answer and whatever blocks are lost, nothing is printed but a prefix of the
+  -- reply's text
+  pub record IsPrinted (asked : Result Command Refusal) (given : Status) (before now : Around) : Type 0 where
+    pub prefix : (w : World) → FindsOver X N before.store.told now.store.told asked w
+        → HasOutside asked (outside_of w) before now → CountsCanRise before.store
+        → PrintsPart (reply_to X N asked w).ends before.held now.held
+    pub text : PrintsAt (IsTextOf X N before.store.told now.store.told before.host.told asked before.left)
+        (of_command flows false asked) given before.held now.held
+    pub synced : given ≡ status.Ok → IsSyncedFor asked now.store.told
+
+  -- what a command leaves. What is good stays, only a command that is done moves the Head, or an `add --to-files` of
+  -- which only the output failed, and some commands leave all as it was; so does an edit that has nothing to do. Of
+  -- the host `get` alone changes anything, also where it is refused or stopped. `pin add` and `pin rm` that are done
+  -- move the note of pins, and whatever else leaves it
+  pub record LeavesRight (asked : Result Command Refusal) (given : Status) (before now : Around) : Type 0 where
+    pub writes : WritesFor X asked (is_done given) before.store.told now.store.told
+    pub good : KeepsGood X before.store.told now.store.told
+    pub head : may_move asked given ≡ false → head_in now.store.told ≡ head_in before.store.told
+    pub told : of_command only_reads true asked ≡ true → now.store.told ≡ before.store.told
+    pub idle : (p : Profile) (es : Entries) (bytes : List ℕ) → NamesOver X N before.store.told p es
+        → HasInput asked before.left bytes before.reads now.reads → Stood before.store.faults now.store.faults
+        → of_command (is_idle bytes es) false asked ≡ true → now.store.told ≡ before.store.told
+    pub host : of_command writes_host false asked ≡ false → now.host.told ≡ before.host.told
+    pub gets : GetsFor asked given before.store.told before.host.told now.host.told
+    pub pins : PinsAfter asked given before.store.told now.store.told
+
+  -- the commands that work on a tree keep within their touches, also where they are refused, and no block is called
+  -- bad before one was touched
+  pub record TouchesFew (asked : Result Command Refusal) (given : Status) (before now : Around) : Type 0 where
+    pub most : (p : Profile) (es : Entries) (bytes : List ℕ) (rows : ℕ → ℕ)
+        → StaysNamed X N before.store.told now.store.told p es
+        → HasInput asked before.left bytes before.reads now.reads → AreHeights p rows
+        → Calm before.store now.store
+        → IfSome (words_touch X N rows bytes asked p es) (λ most. now.touches ≤ before.touches + most)
+    pub bad : given ≡ status.BadBlock → before.touches < now.touches
+
+module _ (Says : List ℕ → Type 0) (X : List ℕ → List ℕ) (N : List ℕ → ℕ) where
   pub record Runs (asked : Result Command Refusal) (given : Status) (before now : Around) : Type 0 where
     -- over a store that stands as the command needs it and, where the command uses it, an input or a host that tells,
     -- with no count risen and no clash met, also in a store of the command's own, the answer is the reply, or out of
@@ -55,52 +113,10 @@ module _ (Says : List ℕ → Type 0) (X : List ℕ → List ℕ) (N : List ℕ 
         → AreHeights p rows → HasOutside asked outside before now → StaysQuiet asked given before now
         → EndsOver X N before.store.told now.store.told p es (words_need X N rows asked p es) Says
         (reply_to X N asked (in_world p es held outside)) given before.held now.held
-    -- over every store each answer is of a kind that the command may answer: so `init`, `add`, `dag import` and `gen`
-    -- look for no block, and one that writes nothing to the store meets no clash there
-    pub kinds : of_command (λ command. may_give command given) true asked ≡ true
-    -- words that are no command, and texts that are no paths, are refused
-    pub words : (why : Refusal) → asked ≡ Err why → IsRefusedBy Says why given
-    -- each other answer has its cause, and its line goes to `errors`
-    pub lines : SaysPlain Says given
-    pub cause : StatusShows Says X N before now asked given
-    -- no fault is passed over
-    pub faults_told : before.store.faults < now.store.faults → given ≡ status.StoreFault
-    pub clashes_told : before.store.clashes < now.store.clashes → (given ≡ status.Clash) ⊎ (given ≡ status.Memory)
-    pub read_told : (before.reads < now.reads) ⊎ (before.host.reads < now.host.reads) → given ≡ status.ReadFault
-    pub write_told : (before.writes < now.writes) ⊎ (before.host.writes < now.host.writes)
-        → given ≡ status.WriteFault
-    pub counted : NoneFalls before now
-    -- what is printed is printed whole at Ok, in part after a failed write, and else not at all, unless the command
-    -- writes while it reads blocks; of `add` it is the row of the input or the rows of what the host has, whose blocks
-    -- are held and durable, over every store that tells; of `dag import` the roots of a CAR whose blocks, and no
-    -- others, were added. Whatever the answer and whatever blocks are lost, nothing is printed but a prefix of the
-    -- reply's text
-    pub prefix : (w : World) → FindsOver X N before.store.told now.store.told asked w
-        → HasOutside asked (outside_of w) before now → CountsCanRise before.store
-        → PrintsPart (reply_to X N asked w).ends before.held now.held
-    pub prints : PrintsAt (IsTextOf X N before.store.told now.store.told before.host.told asked before.left)
-        (of_command flows false asked) given before.held now.held
-    pub synced : given ≡ status.Ok → IsSyncedFor asked now.store.told
-    -- what was written
-    pub writes : WritesFor X asked (is_done given) before.store.told now.store.told
-    -- what is good stays, only a command that is done moves the Head, or an `add --to-files` of which only the
-    -- output failed, and some commands leave all as it was; so does an edit that has nothing to do
-    pub good : KeepsGood X before.store.told now.store.told
-    pub head : may_move asked given ≡ false → head_in now.store.told ≡ head_in before.store.told
-    pub told : of_command only_reads true asked ≡ true → now.store.told ≡ before.store.told
-    pub idle : (p : Profile) (es : Entries) (bytes : List ℕ) → NamesOver X N before.store.told p es
-        → HasInput asked before.left bytes before.reads now.reads → Stood before.store.faults now.store.faults
-        → of_command (is_idle bytes es) false asked ≡ true → now.store.told ≡ before.store.told
-    pub host_told : of_command writes_host false asked ≡ false → now.host.told ≡ before.host.told
-    -- what `get` leaves on the host, also where it is refused or stopped
-    pub gets : GetsFor asked given before.store.told before.host.told now.host.told
-    -- `pin add` and `pin rm` that are done move the note of pins, and whatever else leaves it
-    pub pins : PinsAfter asked given before.store.told now.store.told
-    -- the commands that work on a tree keep within their touches, also where they are refused, and no block is called
-    -- bad before one was touched
-    pub touches : (p : Profile) (es : Entries) (bytes : List ℕ) (rows : ℕ → ℕ)
-        → StaysNamed X N before.store.told now.store.told p es
-        → HasInput asked before.left bytes before.reads now.reads → AreHeights p rows
-        → Calm before.store now.store
-        → IfSome (words_touch X N rows bytes asked p es) (λ most. now.touches ≤ before.touches + most)
-    pub touched : given ≡ status.BadBlock → before.touches < now.touches
+    -- whatever the store shows and whatever fails: the kind, the line and the cause of the answer, the faults that it
+    -- tells, what is printed, what is left, and the touches
+    pub answered : IsAnswered Says X N asked given before now
+    pub faults : TellsFaults given before now
+    pub printed : IsPrinted X N asked given before now
+    pub left : LeavesRight X N asked given before now
+    pub touched : TouchesFew X N asked given before now

@@ -40,9 +40,9 @@ pub fn a_batch_moves_the_head_by_its_lines()
         ⊎ MovesByLine X N did.lines did.ending (without_input before) now.around.store.told }
 {}
 
-/// A batch passes no failure over: a call of the store that failed, a clash that was met, a failed reading of its input
-/// or of the host, and a failed writing are its status. One exception: a line that ends the batch keeps its status
-/// where that couldn't be printed.
+/// A batch passes no failure over: a call of the store that failed, a clash that was met, a failed reading of its
+/// input or of the host, and a failed writing are its status. One exception: a line that ends the batch keeps its
+/// status where that couldn't be printed.
 pub fn a_batch_passes_no_failure_over()
     ensures { (X : List ℕ → List ℕ) (N : List ℕ → ℕ) (most limit : ℕ) (given : TheStatus) (before now : Scene)
         → (did : Batches X N most limit given before now)

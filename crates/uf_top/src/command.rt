@@ -82,7 +82,8 @@ pub fn run<S: Sweep, N: NameHash, W: Host, I: Source, O: Sink, E: Sink, L: Ledge
     // Of `batch`: every line that has a word did what was said of a command, one after the other.
     ensures batch { request_in (map string_bytes words.now) ≡ requests.Batch
         → Batches S.X.block32 N.name64 MOST_OF_LINE MOST_OF_BATCH result
-        (scene_at I.Source O.Sink W.Host E.Sink (S.seen store.old) input.old output.old touches.old host.old errors.old)
+        (scene_at I.Source O.Sink W.Host E.Sink (S.seen store.old) input.old output.old touches.old host.old
+        errors.old)
         (scene_at I.Source O.Sink W.Host E.Sink (S.seen store.new) input.new output.new touches.new host.new
         errors.new) }
 
@@ -104,8 +105,8 @@ pub fn run<S: Sweep, N: NameHash, W: Host, I: Source, O: Sink, E: Sink, L: Ledge
         (around_at I.Source O.Sink W.Host (S.seen store.old) input.old output.old touches.old host.old)
         (around_at I.Source O.Sink W.Host (S.seen store.new) input.new output.new touches.new host.new) }
 
-    // Of `check`: the input was read as the proof of what is at a path below a root, and that was written; the store is
-    // as before.
+    // Of `check`: the input was read as the proof of what is at a path below a root, and that was written; the store
+    // is as before.
     ensures check { (absent : Bool) (cid : TheCid) (path : ThePath)
         → request_in (map string_bytes words.now) ≡ requests.Check absent cid path
         → RunsCheck (SaidTo E.Sink errors.old errors.new) S.X.block32 N.name64 absent cid path.names result
@@ -116,8 +117,8 @@ pub fn run<S: Sweep, N: NameHash, W: Host, I: Source, O: Sink, E: Sink, L: Ledge
     ensures one { (standing other : Standing) → TellsAs S.X.block32 N.name64 (S.seen store.new).told standing
         → TellsAs S.X.block32 N.name64 (S.seen store.new).told other → standing ≡ other }
 
-    // Refused words do nothing to the store, nor does a command that works on stores of its own; a command that doesn't
-    // use the input or the host leaves it as it was; and `add -n` and `gen` make no touch.
+    // Refused words do nothing to the store, nor does a command that works on stores of its own; a command that
+    // doesn't use the input or the host leaves it as it was; and `add -n` and `gen` make no touch.
     ensures left { (asked : TheResult TheCommand TheRefusal)
         → request_in (map string_bytes words.now) ≡ requests.One asked
         → of_command generates true asked ≡ true → store.new ≡ store.old }

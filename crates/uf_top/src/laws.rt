@@ -26,7 +26,8 @@ ghost use Rattle.uf_top.specs.Outcomes.{EachOutcome, EachStop, IsSafeFor, Leaves
 ghost use Rattle.uf_top.specs.Running.{Runs};
 ghost use Rattle.uf_top.specs.Shapes.{HeadAfter, WritesAs, WritesFor};
 
-/// A store that stands for a tree names it, and does so throughout a call that keeps good blocks, as each command does.
+/// A store that stands for a tree names it, and does so throughout a call that keeps good blocks, as each command
+/// does.
 pub fn what_stands_is_named()
     ensures first { (X : List ℕ → List ℕ) (N : List ℕ → ℕ) (told : Told) (p : Profile) (es : Entries)
         → TellsAs X N told (Stands p es) → NamesOver X N told p es }
@@ -67,8 +68,8 @@ pub fn a_stop_leaves_the_tree_before_or_after()
         → IsSafeFor X N b q fs × EachStop (LeavesEither X N p es q fs) a b }
 {}
 
-/// Where a store tells what was written and has no Head, a stop after any write of an `init` leaves no Head or the tree
-/// for which the store stands after it. Where the Head was written, the store is safe for that tree.
+/// Where a store tells what was written and has no Head, a stop after any write of an `init` leaves no Head or the
+/// tree for which the store stands after it. Where the Head was written, the store is safe for that tree.
 pub fn a_stop_of_init_leaves_no_head_or_its_tree()
     ensures stops { (X : List ℕ → List ℕ) (N : List ℕ → ℕ) (done : Bool) (a b : Contents) (p : Profile) (es : Entries)
         → IsPlain a → a.notes.head ≡ None → WritesAs X MakesHead done (Some a) (Some b)

@@ -10,6 +10,7 @@ ghost use Rattle.uf_command.specs.Natures.{SyncsBlocks};
 ghost use Rattle.uf_top.specs.Around.{HostSide, around};
 ghost use Rattle.uf_top.specs.Causes.{IsProfileRead, OnlyWants, ReadsProfile, Stops, is_read, or_usual as usual_or};
 ghost use Rattle.uf_top.specs.Intake.{GivesEntry, IsRowOf, ShownIn};
+ghost use Rattle.uf_top.specs.Lent.{OverInput};
 ghost use Rattle.uf_top.specs.Shapes.{WritesAs, is_ok};
 ghost use Rattle.uf_top.specs.Working.{Makes};
 ghost use Rattle.uf_command.specs.declared.types.Command.TheVariants as commands;
@@ -34,10 +35,8 @@ pub fn adds<S: Store, I: Source, L: Ledger>(
     input: &mut I,
     touches: &mut Steps<L>,
 ) -> Result<Block, Refusal>
-    ensures works { (N : List ℕ → ℕ) (held : Told) (writes : ℕ) (host : HostSide)
-        → Makes S.X.block32 N (commands.Add only_hash) result
-        (around (S.seen store.old) (I.left input.old) (I.faults input.old) held writes touches.old host)
-        (around (S.seen store.new) (I.left input.new) (I.faults input.new) held writes touches.new host) }
+    ensures works { (N : List ℕ → ℕ) → OverInput I.Source (Makes S.X.block32 N (commands.Add only_hash) result)
+        (S.seen store.old) input.old touches.old (S.seen store.new) input.new touches.new }
     ensures untouched { only_hash ≡ true → touches.new ≡ touches.old }
 {
     if only_hash {
@@ -54,10 +53,8 @@ fn add<S: Store, I: Source, L: Ledger>(
     input: &mut I,
     touches: &mut Steps<L>,
 ) -> Result<Block, Refusal>
-    ensures { (N : List ℕ → ℕ) (held : Told) (writes : ℕ) (host : HostSide)
-        → Makes S.X.block32 N (commands.Add false) result
-        (around (S.seen store.old) (I.left input.old) (I.faults input.old) held writes touches.old host)
-        (around (S.seen store.new) (I.left input.new) (I.faults input.new) held writes touches.new host) }
+    ensures { (N : List ℕ → ℕ) → OverInput I.Source (Makes S.X.block32 N (commands.Add false) result)
+        (S.seen store.old) input.old touches.old (S.seen store.new) input.new touches.new }
 {
     match head_profile(alloc, store)? {
         None => Err(Refusal::Ready(Ready::NoHead)),

@@ -6,7 +6,7 @@ ghost use Rattle.uf_command.specs.Natures.{SyncsBlocks};
 ghost use Rattle.uf_command.specs.declared.types.Command.TheVariants as commands;
 ghost use Rattle.uf_store.specs.Keeping.{KeepsGood};
 ghost use Rattle.uf_top.specs.Around.{OnlyReadsHost, around};
-ghost use Rattle.uf_top.specs.Lent.{side_at};
+ghost use Rattle.uf_top.specs.Lent.{OverHost, side_at};
 ghost use Rattle.uf_top.specs.Causes.{OnlyWants, is_read};
 ghost use Rattle.uf_top.specs.Hosted.{IsNoReading, MakesHostText};
 ghost use Rattle.uf_top.specs.HostTexts.{host_refusal, host_row};
@@ -40,10 +40,8 @@ pub fn add_from<S: Store, N: NameHash, W: Host, L: Ledger>(
     host: &mut W,
     touches: &mut Steps<L>,
 ) -> Result<Block, Refusal>
-    ensures works { (left : Told) (reads : ℕ) (held : Told) (writes : ℕ) → Makes S.X.block32 N.name64
-        (commands.AddFrom recursive only_hash path.now) result
-        (around (S.seen store.old) left reads held writes touches.old (side_at W.Host host.old))
-        (around (S.seen store.new) left reads held writes touches.new (side_at W.Host host.new)) }
+    ensures works { OverHost W.Host (Makes S.X.block32 N.name64 (commands.AddFrom recursive only_hash path.now) result)
+        (S.seen store.old) touches.old host.old (S.seen store.new) touches.new host.new }
     ensures untouched { only_hash ≡ true → touches.new ≡ touches.old }
 {
     if only_hash {
@@ -62,10 +60,8 @@ fn keep_from<S: Store, N: NameHash, W: Host, L: Ledger>(
     host: &mut W,
     touches: &mut Steps<L>,
 ) -> Result<Block, Refusal>
-    ensures { (left : Told) (reads : ℕ) (held : Told) (writes : ℕ) → Makes S.X.block32 N.name64
-        (commands.AddFrom recursive false path.now) result
-        (around (S.seen store.old) left reads held writes touches.old (side_at W.Host host.old))
-        (around (S.seen store.new) left reads held writes touches.new (side_at W.Host host.new)) }
+    ensures { OverHost W.Host (Makes S.X.block32 N.name64 (commands.AddFrom recursive false path.now) result)
+        (S.seen store.old) touches.old host.old (S.seen store.new) touches.new host.new }
 {
     match head_profile(alloc, store)? {
         None => Err(Refusal::Ready(Ready::NoHead)),

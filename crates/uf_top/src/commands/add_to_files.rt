@@ -1,7 +1,6 @@
 //! `add --to-files`: the input, or what the host has at a path, put into the tree that the Head names.
 ghost use Rattle.std.specs.Prelude.{◌≡◌, ◌<◌, ℕ, List, IsTrue, option_copied};
 ghost use Rattle.uf_edge.specs.Counts.{Counts};
-ghost use Rattle.uf_edge.specs.Streams.{Told};
 ghost use Rattle.uf_mfs.specs.Standing.{IsMfs};
 ghost use Rattle.uf_command.specs.Statuses.{no_memory};
 ghost use Rattle.uf_command.specs.declared.types.Command.TheVariants as commands;
@@ -9,8 +8,8 @@ ghost use Rattle.uf_store.specs.Calls.{OnlySaves};
 ghost use Rattle.uf_store.specs.Faults.{NoneIsBad};
 ghost use Rattle.uf_tree.specs.Profiles.{is_profile};
 ghost use Rattle.uf_command.specs.Kinds.{refusal_fault};
-ghost use Rattle.uf_top.specs.Around.{HostSide, OnlyReadsHost, around};
-ghost use Rattle.uf_top.specs.Lent.{side_at};
+ghost use Rattle.uf_top.specs.Around.{OnlyReadsHost};
+ghost use Rattle.uf_top.specs.Lent.{OverHost, OverInput, side_at};
 ghost use Rattle.uf_top.specs.Causes.{is_read};
 ghost use Rattle.uf_top.specs.Grafts.{FollowsOr};
 ghost use Rattle.uf_top.specs.HostTexts.{host_text};
@@ -44,10 +43,8 @@ pub fn add_to<S: Store, N: NameHash, I: Source, L: Ledger>(
     input: &mut I,
     touches: &mut Steps<L>,
 ) -> Result<Block, Refusal>
-    ensures { (held : Told) (writes : ℕ) (host : HostSide)
-        → Makes S.X.block32 N.name64 (commands.AddTo dest.now) result
-        (around (S.seen store.old) (I.left input.old) (I.faults input.old) held writes touches.old host)
-        (around (S.seen store.new) (I.left input.new) (I.faults input.new) held writes touches.new host) }
+    ensures { OverInput I.Source (Makes S.X.block32 N.name64 (commands.AddTo dest.now) result)
+        (S.seen store.old) input.old touches.old (S.seen store.new) input.new touches.new }
 {
     let found = find::<S, N, L>(alloc, dest, None, store, touches)?;
     let given = read_input::<S, I>(alloc, found.tree.profile, store, input)?;
@@ -64,10 +61,8 @@ pub fn add_from_to<S: Store, N: NameHash, W: Host, L: Ledger>(
     host: &mut W,
     touches: &mut Steps<L>,
 ) -> Result<Block, Refusal>
-    ensures { (left : Told) (reads : ℕ) (held : Told) (writes : ℕ) → Makes S.X.block32 N.name64
-        (commands.AddFromTo recursive path.now dest.now) result
-        (around (S.seen store.old) left reads held writes touches.old (side_at W.Host host.old))
-        (around (S.seen store.new) left reads held writes touches.new (side_at W.Host host.new)) }
+    ensures { OverHost W.Host (Makes S.X.block32 N.name64 (commands.AddFromTo recursive path.now dest.now) result)
+        (S.seen store.old) touches.old host.old (S.seen store.new) touches.new host.new }
 {
     let found = find::<S, N, L>(alloc, dest, Some(path), store, touches)?;
     let given = read_host::<S, N, W>(alloc, found.tree.profile, recursive, path, store, host)?;

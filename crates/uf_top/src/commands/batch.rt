@@ -53,7 +53,8 @@ pub fn batch<S: Store, N: NameHash, W: Host, I: Source, O: Sink, E: Sink, L: Led
     touches: &mut Steps<L>,
 ) -> Status
     ensures { Batches S.X.block32 N.name64 MOST_OF_LINE limit result
-        (scene_at I.Source O.Sink W.Host E.Sink (S.seen store.old) input.old output.old touches.old host.old errors.old)
+        (scene_at I.Source O.Sink W.Host E.Sink (S.seen store.old) input.old output.old touches.old host.old
+        errors.old)
         (scene_at I.Source O.Sink W.Host E.Sink (S.seen store.new) input.new output.new touches.new host.new
         errors.new) }
 {
@@ -74,7 +75,8 @@ pub fn batch<S: Store, N: NameHash, W: Host, I: Source, O: Sink, E: Sink, L: Led
     }
 }
 
-// Does what a line asks for, where it has a word, and prints its status. The answer comes where the batch ends with it.
+// Does what a line asks for, where it has a word, and prints its status. The answer comes where the batch ends with
+// it.
 fn do_line<S: Store, N: NameHash, W: Host, O: Sink, E: Sink, L: Ledger>(
     alloc: Global,
     line: &[u8],

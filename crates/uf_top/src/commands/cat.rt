@@ -1,14 +1,13 @@
 //! `cat`, and what is found in DAGs of others. Files are sent to the output while their blocks are read.
 ghost use Rattle.std.specs.Prelude.{◌<◌, ◌≤◌, ◌^◌, IfErr, IfSome, List, ℕ, length};
-ghost use Rattle.uf_edge.specs.Streams.{Told as Left};
 ghost use Rattle.uf_lenient.specs.Good.{ByGoodBlocks};
 ghost use Rattle.uf_command.specs.Kinds.{refusal_fault};
 ghost use Rattle.uf_command.specs.declared.types.Command.TheVariants as commands;
 ghost use Rattle.uf_store.specs.Calls.{OnlyReads};
 ghost use Rattle.uf_store.specs.Contents.{held_at};
 ghost use Rattle.uf_store.specs.Faults.{NoneIsBad};
-ghost use Rattle.uf_top.specs.Around.{HostSide, around};
 ghost use Rattle.uf_top.specs.Foreign.{FindsFile, FindsShape, FindsTree, IsOfReading, LeadsTo};
+ghost use Rattle.uf_top.specs.Lent.{OverOutput};
 ghost use Rattle.uf_top.specs.Working.{Does};
 
 use std::alloc::Global;
@@ -35,10 +34,8 @@ pub fn cat<S: Store, O: Sink, L: Ledger>(
     touches: &mut Steps<L>,
 ) -> Result<(), Refusal>
     requires { length path.now.names < 2 ^ 32 }
-    ensures { (N : List ℕ → ℕ) (left : Left) (reads : ℕ) (side : HostSide)
-        → Does S.X.block32 N (commands.Cat path.now) result
-        (around (S.seen store.old) left reads (O.holds output.old) (O.faults output.old) touches.old side)
-        (around (S.seen store.new) left reads (O.holds output.new) (O.faults output.new) touches.new side) }
+    ensures { (N : List ℕ → ℕ) → OverOutput O.Sink (Does S.X.block32 N (commands.Cat path.now) result)
+        (S.seen store.old) output.old touches.old (S.seen store.new) output.new touches.new }
 {
     let cid = file_in(alloc, path, store, touches)?;
     match stream(alloc, store, &cid, &USUAL, output, touches) {

@@ -3,13 +3,13 @@ ghost use Rattle.std.specs.Prelude.{◌≡◌, IfErr, IfOk, List, OnErr, OnOk, f
 ghost use Rattle.uf_edge.specs.Streams.{Told as Left};
 ghost use Rattle.uf_command.specs.Natures.{OfCarSections};
 ghost use Rattle.uf_command.specs.declared.types.Command.TheVariants as commands;
-ghost use Rattle.uf_top.specs.Around.{HostSide, around};
 ghost use Rattle.uf_mfs.specs.Standing.{LeavesHead};
 ghost use Rattle.uf_command.specs.Cars.{root_line};
 ghost use Rattle.uf_store.specs.Contents.{changed, with_sync};
 ghost use Rattle.uf_top.specs.Causes.{Stops};
 ghost use Rattle.uf_top.specs.Cars.{ByOwnStore, ComparesCar, ComparesStores, KeepsCar, TakesRoot, root_alone};
 ghost use Rattle.uf_top.specs.Intake.{ShownIn};
+ghost use Rattle.uf_top.specs.Lent.{OverOutput, OverStreams};
 ghost use Rattle.uf_top.specs.Reply.{compared_text as text_of_compared, same_refusal as refusal_of_same};
 ghost use Rattle.uf_top.specs.Working.{Does};
 
@@ -40,10 +40,8 @@ pub fn export_car<S: Store, O: Sink, L: Ledger>(
     output: &mut O,
     touches: &mut Steps<L>,
 ) -> Result<(), Refusal>
-    ensures { (N : List ℕ → ℕ) (left : Left) (reads : ℕ) (side : HostSide)
-        → Does S.X.block32 N (commands.Export cid.now) result
-        (around (S.seen store.old) left reads (O.holds output.old) (O.faults output.old) touches.old side)
-        (around (S.seen store.new) left reads (O.holds output.new) (O.faults output.new) touches.new side) }
+    ensures { (N : List ℕ → ℕ) → OverOutput O.Sink (Does S.X.block32 N (commands.Export cid.now) result)
+        (S.seen store.old) output.old touches.old (S.seen store.new) output.new touches.new }
 {
     match export(alloc, store, cid, MOST_BLOCKS, output, touches) {
         Ok(_) => Ok(()),
@@ -59,11 +57,8 @@ pub fn import_car<S: Store, I: Source, O: Sink, L: Ledger>(
     output: &mut O,
     touches: &mut Steps<L>,
 ) -> Result<(), Refusal>
-    ensures { (N : List ℕ → ℕ) (side : HostSide) → Does S.X.block32 N commands.Import result
-        (around (S.seen store.old) (I.left input.old) (I.faults input.old) (O.holds output.old) (O.faults output.old)
-        touches.old side)
-        (around (S.seen store.new) (I.left input.new) (I.faults input.new) (O.holds output.new) (O.faults output.new)
-        touches.new side) }
+    ensures { (N : List ℕ → ℕ) → OverStreams I.Source O.Sink (Does S.X.block32 N commands.Import result)
+        (S.seen store.old) input.old output.old touches.old (S.seen store.new) input.new output.new touches.new }
 {
     let text = roots_of(alloc, store, input, touches)?;
     print(&text, output)
@@ -106,11 +101,8 @@ pub fn compare_car<S: Store, I: Source, O: Sink, L: Ledger>(
     output: &mut O,
     touches: &mut Steps<L>,
 ) -> Result<(), Refusal>
-    ensures does { (N : List ℕ → ℕ) (side : HostSide) → Does S.X.block32 N (commands.Same cid.now) result
-        (around (S.seen store.old) (I.left input.old) (I.faults input.old) (O.holds output.old) (O.faults output.old)
-        touches.old side)
-        (around (S.seen store.new) (I.left input.new) (I.faults input.new) (O.holds output.new) (O.faults output.new)
-        touches.new side) }
+    ensures does { (N : List ℕ → ℕ) → OverStreams I.Source O.Sink (Does S.X.block32 N (commands.Same cid.now) result)
+        (S.seen store.old) input.old output.old touches.old (S.seen store.new) input.new output.new touches.new }
     ensures own { IfErr result (ByOwnStore S.X.block32 OfCarSections (I.left input.old) (S.seen store.old)
         (S.seen store.new)) }
 {

@@ -1,13 +1,12 @@
 //! `init`, and what `files` does at one path of the tree that the Head names.
 ghost use Rattle.std.specs.Prelude.{ℕ, false, true, IsTrue};
-ghost use Rattle.uf_edge.specs.Streams.{Told};
 ghost use Rattle.uf_mfs.specs.Standing.{IsMfs};
 ghost use Rattle.uf_tree.specs.Profiles.{is_profile};
 ghost use Rattle.uf_command.specs.Commands.{IsGoodAsk};
-ghost use Rattle.uf_top.specs.Around.{HostSide, around};
 ghost use Rattle.uf_top.specs.Causes.{IsMade, IsOpeningFault, IsSendingFault};
 ghost use Rattle.uf_edits.specs.Edits.{IsTreeFault};
 ghost use Rattle.uf_top.specs.Causes.{RefusesInTree, RefusesOpening, RefusesSending};
+ghost use Rattle.uf_top.specs.Lent.{OverStore};
 ghost use Rattle.uf_top.specs.Working.{Makes, WorksAt};
 ghost use Rattle.uf_command.specs.declared.types.Ask.TheVariants as asks;
 ghost use Rattle.uf_command.specs.declared.types.Command.TheVariants as commands;
@@ -31,10 +30,8 @@ pub fn init<S: Store, N: NameHash, L: Ledger>(
     touches: &mut Steps<L>,
 ) -> Result<Block, Refusal>
     requires { IsTrue (is_profile profile) }
-    ensures { (left : Told) (reads : ℕ) (held : Told) (writes : ℕ) (host : HostSide)
-        → Makes S.X.block32 N.name64 (commands.Init profile) result
-        (around (S.seen store.old) left reads held writes touches.old host)
-        (around (S.seen store.new) left reads held writes touches.new host) }
+    ensures { OverStore (Makes S.X.block32 N.name64 (commands.Init profile) result)
+        (S.seen store.old) touches.old (S.seen store.new) touches.new }
 {
     match Mfs::init::<S, N, L>(alloc, store, profile, touches) {
         Err(fault) => Err(opening(fault)),
@@ -54,10 +51,8 @@ pub fn at<S: Store, N: NameHash, L: Ledger>(
     touches: &mut Steps<L>,
 ) -> Result<Block, Refusal>
     requires { IsGoodAsk ask.now }
-    ensures { (left : Told) (reads : ℕ) (held : Told) (writes : ℕ) (host : HostSide)
-        → Makes S.X.block32 N.name64 (commands.At ask.now path.now) result
-        (around (S.seen store.old) left reads held writes touches.old host)
-        (around (S.seen store.new) left reads held writes touches.new host) }
+    ensures { OverStore (Makes S.X.block32 N.name64 (commands.At ask.now path.now) result)
+        (S.seen store.old) touches.old (S.seen store.new) touches.new }
 {
     match Mfs::from_store::<S, N, L>(alloc, store, touches) {
         Err(fault) => Err(opening(fault)),

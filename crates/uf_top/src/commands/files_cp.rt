@@ -3,7 +3,6 @@ ghost use Rattle.std.specs.Prelude.{◌≡◌, ◌<◌, ◌^◌, ℕ, Ok, Some, 
 ghost use Rattle.uf_adopt.specs.Feeding.{HoldsGoodMap};
 ghost use Rattle.uf_cid.specs.Blocks.{Lookup};
 ghost use Rattle.uf_edge.specs.Counts.{Stood};
-ghost use Rattle.uf_edge.specs.Streams.{Told as Left};
 ghost use Rattle.uf_lenient.specs.Reading.{denotes};
 ghost use Rattle.uf_mfs.specs.Bad.{IsBadInTree};
 ghost use Rattle.uf_mfs.specs.Standing.{IsMfs, StandsOver};
@@ -11,6 +10,7 @@ ghost use Rattle.uf_mfs.specs.Touches.{CountsUp};
 ghost use Rattle.uf_plain.specs.Moves.{spotted};
 ghost use Rattle.uf_command.specs.Dags.{IsToldAs, adopted_name as name_adopted, usual_limits};
 ghost use Rattle.uf_command.specs.Kinds.{IsOf, refusal_fault};
+ghost use Rattle.uf_top.specs.Lent.{OverStore};
 ghost use Rattle.uf_top.specs.Reply.{adopted, by_rule};
 ghost use Rattle.uf_command.specs.declared.types.Command.TheVariants as commands;
 ghost use Rattle.uf_store.specs.Calls.{OnlyReads, OnlySaves};
@@ -18,7 +18,6 @@ ghost use Rattle.uf_store.specs.Faults.{NoneIsBad};
 ghost use Rattle.uf_tree.specs.Tree.{Dir, Entries, Tree};
 ghost use Rattle.uf_tree.specs.TreePlan.{blocks};
 ghost use Rattle.uf_tree.specs.declared.profile.Profile.{Profile as TheProfile};
-ghost use Rattle.uf_top.specs.Around.{HostSide, around};
 ghost use Rattle.uf_top.specs.Grafts.{BuildsPlanned, FollowsOr, GraftsIn, IsLostBy, PutsTree, TouchesUp};
 ghost use Rattle.uf_top.specs.Grafts.{adopt_refusal, graft_kinds, put_tree};
 ghost use Rattle.uf_top.specs.Naming.{TellsBlocks};
@@ -47,10 +46,8 @@ pub fn graft<S: Store, N: NameHash, L: Ledger>(
     touches: &mut Steps<L>,
 ) -> Result<(), Refusal>
     requires { length source.now.names < 2 ^ 32 }
-    ensures { (left : Left) (reads : ℕ) (held : Left) (writes : ℕ) (host : HostSide)
-        → Does S.X.block32 N.name64 (commands.Adopt source.now dest.now) result
-        (around (S.seen store.old) left reads held writes touches.old host)
-        (around (S.seen store.new) left reads held writes touches.new host) }
+    ensures { OverStore (Does S.X.block32 N.name64 (commands.Adopt source.now dest.now) result)
+        (S.seen store.old) touches.old (S.seen store.new) touches.new }
 {
     match Mfs::from_store::<S, N, L>(alloc, store, touches) {
         Err(fault) => Err(opening(fault)),

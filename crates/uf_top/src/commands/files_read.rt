@@ -1,7 +1,6 @@
 //! `files read`: a file of the tree that the Head names, sent to the output while its blocks are read.
 ghost use Rattle.std.specs.Prelude.{ℕ};
-ghost use Rattle.uf_edge.specs.Streams.{Told as Left};
-ghost use Rattle.uf_top.specs.Around.{HostSide, around};
+ghost use Rattle.uf_top.specs.Lent.{OverOutput};
 ghost use Rattle.uf_top.specs.Working.{Does};
 ghost use Rattle.uf_command.specs.declared.types.Command.TheVariants as commands;
 
@@ -25,10 +24,8 @@ pub fn send_part<S: Store, N: NameHash, O: Sink, L: Ledger>(
     output: &mut O,
     touches: &mut Steps<L>,
 ) -> Result<(), Refusal>
-    ensures { (left : Left) (reads : ℕ) (side : HostSide)
-        → Does S.X.block32 N.name64 (commands.Read offset count path.now) result
-        (around (S.seen store.old) left reads (O.holds output.old) (O.faults output.old) touches.old side)
-        (around (S.seen store.new) left reads (O.holds output.new) (O.faults output.new) touches.new side) }
+    ensures { OverOutput O.Sink (Does S.X.block32 N.name64 (commands.Read offset count path.now) result)
+        (S.seen store.old) output.old touches.old (S.seen store.new) output.new touches.new }
 {
     match Mfs::from_store::<S, N, L>(alloc, store, touches) {
         Err(fault) => Err(opening(fault)),

@@ -1,9 +1,8 @@
 //! `files write`: the input written into a file of the tree that the Head names.
 ghost use Rattle.std.specs.Prelude.{ℕ};
 ghost use Rattle.uf_edge.specs.Counts.{Counts};
-ghost use Rattle.uf_edge.specs.Streams.{Told};
-ghost use Rattle.uf_top.specs.Around.{HostSide, around};
 ghost use Rattle.uf_top.specs.Causes.{TakesAll, is_read};
+ghost use Rattle.uf_top.specs.Lent.{OverInput};
 ghost use Rattle.uf_top.specs.Working.{Makes};
 ghost use Rattle.uf_command.specs.declared.types.Command.TheVariants as commands;
 
@@ -31,10 +30,8 @@ pub fn write_input<S: Store, N: NameHash, I: Source, L: Ledger>(
     input: &mut I,
     touches: &mut Steps<L>,
 ) -> Result<Block, Refusal>
-    ensures { (held : Told) (writes : ℕ) (host : HostSide)
-        → Makes S.X.block32 N.name64 (commands.WriteInput how path.now) result
-        (around (S.seen store.old) (I.left input.old) (I.faults input.old) held writes touches.old host)
-        (around (S.seen store.new) (I.left input.new) (I.faults input.new) held writes touches.new host) }
+    ensures { OverInput I.Source (Makes S.X.block32 N.name64 (commands.WriteInput how path.now) result)
+        (S.seen store.old) input.old touches.old (S.seen store.new) input.new touches.new }
 {
     match Mfs::from_store::<S, N, L>(alloc, store, touches) {
         Err(fault) => Err(opening(fault)),

@@ -1,7 +1,6 @@
 //! `get`: what is found in DAGs of others, written to the host.
 ghost use Rattle.std.specs.Prelude.{◌<◌, ◌^◌, IfErr, IfSome, List, ℕ, length};
 ghost use Rattle.uf_edge.specs.Counts.{Counts};
-ghost use Rattle.uf_edge.specs.Streams.{Told as Left};
 ghost use Rattle.uf_host.specs.Paths.{trimmed};
 ghost use Rattle.uf_host.specs.Places.{ChangesAt};
 ghost use Rattle.uf_command.specs.Kinds.{refusal_fault};
@@ -9,8 +8,7 @@ ghost use Rattle.uf_command.specs.declared.types.Command.TheVariants as commands
 ghost use Rattle.uf_store.specs.Calls.{OnlyReads};
 ghost use Rattle.uf_store.specs.Contents.{held_at};
 ghost use Rattle.uf_store.specs.Faults.{NoneIsBad};
-ghost use Rattle.uf_top.specs.Around.{around};
-ghost use Rattle.uf_top.specs.Lent.{side_at};
+ghost use Rattle.uf_top.specs.Lent.{OverHost};
 ghost use Rattle.uf_top.specs.Causes.{is_read, is_write};
 ghost use Rattle.uf_top.specs.Foreign.{LeadsTo};
 ghost use Rattle.uf_top.specs.Getting.{Gets, IsOfGetting, IsUnwritten};
@@ -38,10 +36,8 @@ pub fn get<S: Store, W: Host, L: Ledger>(
     touches: &mut Steps<L>,
 ) -> Result<(), Refusal>
     requires { length path.now.names < 2 ^ 32 }
-    ensures { (N : List ℕ → ℕ) (left : Left) (reads : ℕ) (held : Left) (writes : ℕ) → Does S.X.block32 N
-        (commands.Get path.now host_path.now) result
-        (around (S.seen store.old) left reads held writes touches.old (side_at W.Host host.old))
-        (around (S.seen store.new) left reads held writes touches.new (side_at W.Host host.new)) }
+    ensures { (N : List ℕ → ℕ) → OverHost W.Host (Does S.X.block32 N (commands.Get path.now host_path.now) result)
+        (S.seen store.old) touches.old host.old (S.seen store.new) touches.new host.new }
 {
     match resolve(alloc, store, path, &USUAL, touches) {
         Err(fault) => Err(dag_refusal(alloc, path, fault)),

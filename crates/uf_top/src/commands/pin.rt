@@ -1,9 +1,8 @@
 //! `pin add`, `pin rm` and `pin ls`: CIDs pinned, pinned no more, and listed.
 ghost use Rattle.std.specs.Prelude.{◌≡◌, List, ℕ};
-ghost use Rattle.uf_edge.specs.Streams.{Told as Left};
 ghost use Rattle.uf_command.specs.declared.types.Command.TheVariants as commands;
 ghost use Rattle.uf_command.specs.declared.types.PinAsk.TheVariants as asks;
-ghost use Rattle.uf_top.specs.Around.{HostSide, around};
+ghost use Rattle.uf_top.specs.Lent.{OverOutput};
 ghost use Rattle.uf_top.specs.Working.{Does};
 
 use crate::commands::dag::MOST_BLOCKS;
@@ -22,10 +21,8 @@ pub fn pin<S: Store, O: Sink, L: Ledger>(
     output: &mut O,
     touches: &mut Steps<L>,
 ) -> Result<(), Refusal>
-    ensures does { (N : List ℕ → ℕ) (left : Left) (reads : ℕ) (side : HostSide)
-        → Does S.X.block32 N (commands.Pin ask.now) result
-        (around (S.seen store.old) left reads (O.holds output.old) (O.faults output.old) touches.old side)
-        (around (S.seen store.new) left reads (O.holds output.new) (O.faults output.new) touches.new side) }
+    ensures does { (N : List ℕ → ℕ) → OverOutput O.Sink (Does S.X.block32 N (commands.Pin ask.now) result)
+        (S.seen store.old) output.old touches.old (S.seen store.new) output.new touches.new }
     ensures untouched { ask.now ≡ asks.List → touches.new ≡ touches.old }
 {
     match ask {

@@ -1,12 +1,11 @@
 //! `prove` and `check`: what is at a path, shown by the blocks that decide it.
 ghost use Rattle.std.specs.Prelude.{◌≡◌, ◌⊎◌, ◌<◌, ◌^◌, Bool, List, ℕ, length};
-ghost use Rattle.uf_edge.specs.Streams.{Told as Left};
 ghost use Rattle.uf_plain.specs.Rules.{rule_of};
 ghost use Rattle.uf_command.specs.Statuses.{no_memory};
 ghost use Rattle.uf_command.specs.declared.types.Command.TheVariants as commands;
 ghost use Rattle.uf_command.specs.declared.types.Refusal.TheVariants as refusals;
-ghost use Rattle.uf_top.specs.Around.{HostSide, around};
 ghost use Rattle.uf_top.specs.Checking.{ChecksAndEnds};
+ghost use Rattle.uf_top.specs.Lent.{OverOutput};
 ghost use Rattle.uf_top.specs.Light.{EndsLight, IsLightTold};
 ghost use Rattle.uf_top.specs.Working.{Does};
 
@@ -27,8 +26,8 @@ use uf_tree::Name;
 // The most bytes of a light proof that is read.
 const MOST_OF_PROOF: u64 = 1073741824;
 
-// Writes a CAR of the blocks that decide what is at a path of the tree that the Head names, and of a file its own; with
-// `absent` nothing is to be there.
+// Writes a CAR of the blocks that decide what is at a path of the tree that the Head names, and of a file its own;
+// with `absent` nothing is to be there.
 pub fn prove_at<S: Store, N: NameHash, O: Sink, L: Ledger>(
     alloc: Global,
     absent: bool,
@@ -38,10 +37,8 @@ pub fn prove_at<S: Store, N: NameHash, O: Sink, L: Ledger>(
     touches: &mut Steps<L>,
 ) -> Result<(), Refusal>
     requires { length path.now.names < 2 ^ 32 }
-    ensures { (left : Left) (reads : ℕ) (side : HostSide)
-        → Does S.X.block32 N.name64 (commands.Prove absent path.now) result
-        (around (S.seen store.old) left reads (O.holds output.old) (O.faults output.old) touches.old side)
-        (around (S.seen store.new) left reads (O.holds output.new) (O.faults output.new) touches.new side) }
+    ensures { OverOutput O.Sink (Does S.X.block32 N.name64 (commands.Prove absent path.now) result)
+        (S.seen store.old) output.old touches.old (S.seen store.new) output.new touches.new }
 {
     let names = &path.names;
     match Mfs::from_store::<S, N, L>(alloc, store, touches) {
