@@ -91,8 +91,8 @@ fn say_again(told: &mut Block, again: Result<bool, StrictFault>) -> Result<(), M
     }
 }
 
-// Whether a block with this byte changed is read as one that is written so, or as none, and leniently without a want of
-// memory.
+// Whether a block with this byte changed is read as one that is written so, or as none, and leniently without a want
+// of memory.
 fn is_sound(alloc: Global, bytes: &[u8]) -> bool {
     let is_strict = matches!(
         node_again(alloc, bytes),

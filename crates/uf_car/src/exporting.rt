@@ -23,8 +23,8 @@ use uf_varint::width;
 use uf_walk::{Turn, Walk};
 
 /// Writes the CAR of a root: the header, and a section for each block that links lead to from the root, in first-visit
-/// depth-first order (CARv1). All is walked before anything is written. It answers the number of bytes. Two touches for
-/// each block.
+/// depth-first order (CARv1). All is walked before anything is written. It answers the number of bytes. Two touches
+/// for each block.
 pub fn export<S: Store, O: Sink, L: Ledger>(
     alloc: Global,
     store: &mut S,
@@ -33,7 +33,8 @@ pub fn export<S: Store, O: Sink, L: Ledger>(
     out: &mut O,
     touches: &mut Steps<L>,
 ) -> Result<u64, ExportFault>
-    // Over a store that tells: the text of the order, or its first fault and nothing written; a failure leaves a front.
+    // Over a store that tells: the text of the order, or its first fault and nothing written; a failure leaves a
+    // front.
     ensures text { (t : Contents) → (S.seen store.old).told ≡ Some t
         → Exports (held_at t) most root.now result (O.holds out.old) (O.holds out.new) }
     ensures some { WritesSome (O.holds out.old) (O.holds out.new) }

@@ -8,7 +8,8 @@ use std::alloc::Global;
 use uf_cid::{Memory, zeros};
 use uf_edge::{Read, Source};
 
-// How many bytes of a source are kept where a section is longer than the first buffer: the longest section, and 64 KiB.
+// How many bytes of a source are kept where a section is longer than the first buffer: the longest section, and 64
+// KiB.
 const MOST_BUFFERED: usize = 2162733;
 
 // Whether a source may give more.

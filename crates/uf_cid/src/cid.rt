@@ -65,8 +65,8 @@ impl Cid {
         out
     }
 
-    /// The text of the CID: `b`, and the base32 of its bytes in lower case without padding (multibase, RFC 4648 section
-    /// 6).
+    /// The text of the CID: `b`, and the base32 of its bytes in lower case without padding (multibase, RFC 4648
+    /// section 6).
     pub fn text(&self) -> [u8; 59]
         ensures { result ≡ cid_text self.now }
     {

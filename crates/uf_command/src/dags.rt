@@ -52,7 +52,8 @@ pub fn no_file(alloc: Global, path: &DagPath) -> Refusal
     }
 }
 
-/// The name under which what is at a path is put in a directory: the last one of the path, or else the text of its CID.
+/// The name under which what is at a path is put in a directory: the last one of the path, or else the text of its
+/// CID.
 pub fn adopted_name(alloc: Global, path: &DagPath) -> Result<Name, Memory>
     ensures { IfOk result (λ name. name ≡ name_adopted path.now) }
 {

@@ -12,8 +12,8 @@ use uf_path::Path;
 use uf_store::StoreFault;
 use uf_words::{Cmd, WordFault, read_words};
 
-/// What words ask for: the commands that the lines of the input ask for, a talk with a peer, a collection, the check of
-/// a proof, or one command, where it can be read.
+/// What words ask for: the commands that the lines of the input ask for, a talk with a peer, a collection, the check
+/// of a proof, or one command, where it can be read.
 #[derive(Drop)]
 pub enum Request {
     /// `batch`

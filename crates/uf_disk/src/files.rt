@@ -42,7 +42,8 @@ impl<T: Drop> From<AllocFailed<T>> for Trouble {
     }
 }
 
-/// How long the file at a path is; None where nothing is there. Anything there but a file is trouble, and isn't opened.
+/// How long the file at a path is; None where nothing is there. Anything there but a file is trouble, and isn't
+/// opened.
 pub fn length_of<R: Files>(files: &R, path: &str) -> Result<Option<u64>, Trouble> {
     match fs::metadata(files, path) {
         Ok(found) if found.is_file() => Ok(Some(found.len())),
@@ -85,8 +86,8 @@ pub fn append_from<R: Files>(
     Ok(())
 }
 
-/// Puts a file of these bytes at a path, by one act, in the place of what is there. The bytes are written under another
-/// name and made durable before they get this one. What was begun is taken away where that fails.
+/// Puts a file of these bytes at a path, by one act, in the place of what is there. The bytes are written under
+/// another name and made durable before they get this one. What was begun is taken away where that fails.
 pub fn put_file<R: Files>(files: &R, new: &str, path: &str, bytes: &[u8]) -> Result<(), Trouble> {
     let put = write_and_rename(files, new, path, bytes);
     if put.is_err() {

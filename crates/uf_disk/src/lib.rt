@@ -1,5 +1,5 @@
-//! The machine's own files and streams: a store in the folder `.unixfs`, the host's files and folders, and the standard
-//! streams. They count what fails, and tell nothing of what they hold.
+//! The machine's own files and streams: a store in the folder `.unixfs`, the host's files and folders, and the
+//! standard streams. They count what fails, and tell nothing of what they hold.
 #![tactic(auto)]
 
 mod ahead;

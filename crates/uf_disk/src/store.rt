@@ -19,10 +19,10 @@ use uf_store::{Load, Note, NoteRead, Presence, Save, Steps, Store, Sweep, Swept}
 /// Keeps blocks and notes in the folder `.unixfs` of the working folder, which it makes at the first write. It tells
 /// nothing of what is there.
 ///
-/// A block is the file `blocks/CID`, where it came of late, or `blocks/XY/CID`, where XY are the last two characters of
-/// the CID's text; a note is the file `head` or `pins`. A file gets its name when it is whole and durable, so none is
-/// ever seen half written. Two processes at once are not supported: the later one may make the earlier one fail, but no
-/// file is torn.
+/// A block is the file `blocks/CID`, where it came of late, or `blocks/XY/CID`, where XY are the last two characters
+/// of the CID's text; a note is the file `head` or `pins`. A file gets its name when it is whole and durable, so none
+/// is ever seen half written. Two processes at once are not supported: the later one may make the earlier one fail,
+/// but no file is torn.
 #[derive(Drop)]
 pub struct DiskStore<X: BlockHash, R> {
     hash: PhantomData<X>,

@@ -19,8 +19,8 @@ ghost use Rattle.uf_tree.specs.Profiles.{is_profile};
 ghost use Rattle.std.specs.List.{flat_map};
 ghost use Rattle.uf_fileread.specs.Bad.{IsBadAmong, IsBadBelow, IsBadInFile};
 ghost use Rattle.uf_fileread.specs.Parts.{parts_block};
-ghost use Rattle.uf_fileread.specs.Ranges.{IsFile, SendsAtMost, ShowsRange, WritesOver, blocks_met, blocks_read, meets};
-ghost use Rattle.uf_fileread.specs.Ranges.{range_of};
+ghost use Rattle.uf_fileread.specs.Ranges.{IsFile, SendsAtMost, ShowsRange, WritesOver, blocks_met, blocks_read};
+ghost use Rattle.uf_fileread.specs.Ranges.{meets, range_of};
 ghost use Rattle.uf_fileread.specs.Sending.{ArePartsOver, CarriesHere, Fits, IsFilePart, LoadsParts, MayStand};
 ghost use Rattle.uf_fileread.specs.Sending.{ReadsPart};
 
@@ -117,8 +117,8 @@ fn send_part<S: Store, O: Sink, L: Ledger>(
     ensures reads { (p : Profile) (m : TheMeta) (k : ℕ) (bytes : List ℕ) → IsFilePart S.X.block32 p spot.rows m k
         spot.cid spot.declared bytes
         → Agrees (S.seen store.old).told (whole_blocks S.X.block32 p.chunk p.width m k bytes)
-        → ReadsPart (S.seen store.old).told (blocks_read S.X.block32 p.chunk p.width m k reach.offset reach.count bytes)
-        (range_of reach.offset reach.count bytes) (O.holds out.old) (O.holds out.new)
+        → ReadsPart (S.seen store.old).told (blocks_read S.X.block32 p.chunk p.width m k reach.offset reach.count
+        bytes) (range_of reach.offset reach.count bytes) (O.holds out.old) (O.holds out.new)
         (S.seen store.old).faults (S.seen store.new).faults touches.old touches.new result }
     ensures touched { touches.old < touches.new }
     ensures sends { SendsAtMost reach.count (O.holds out.old) (O.holds out.new) result }
@@ -158,8 +158,8 @@ fn send_parts<S: Store, O: Sink, L: Ledger>(
     ensures reads { (p : Profile) (k : ℕ) (gs : List (List ℕ)) → ArePartsOver S.X.block32 p rows k parts.now gs
         → Agrees (S.seen store.old).told (flat_map (blocks_over S.X.block32 p.chunk p.width k) gs)
         → ReadsPart (S.seen store.old).told (blocks_met (λ o n g. blocks_read S.X.block32 p.chunk p.width none k o n g)
-        reach.offset reach.count gs) (range_of reach.offset reach.count (joined gs)) (O.holds out.old) (O.holds out.new)
-        (S.seen store.old).faults (S.seen store.new).faults touches.old touches.new result }
+        reach.offset reach.count gs) (range_of reach.offset reach.count (joined gs)) (O.holds out.old)
+        (O.holds out.new) (S.seen store.old).faults (S.seen store.new).faults touches.old touches.new result }
     ensures touched { touches.old ≤ touches.new }
     ensures sends { SendsAtMost reach.count (O.holds out.old) (O.holds out.new) result }
     ensures cause { ShowsRange S.X.block32 (IsBadAmong (S.seen store.old).told (22 - rows) parts.now) result

@@ -29,9 +29,9 @@ use uf_tree::{Entry, Profile};
 const BUFFER: usize = 8 * 262144;
 
 /// Adds the file at a path, or where `recursive` says so the folder, with everything in it: saves the blocks of its
-/// plan by the profile and answers its rows. Slashes at the end of the path are taken off. A row's path begins with the
-/// last name of the path, or with `/` where there is none; what is in a folder comes before it, in the byte order of
-/// names. A file is read piece by piece, and is never held as a whole.
+/// plan by the profile and answers its rows. Slashes at the end of the path are taken off. A row's path begins with
+/// the last name of the path, or with `/` where there is none; what is in a folder comes before it, in the byte order
+/// of names. A file is read piece by piece, and is never held as a whole.
 pub fn add<S: Store, N: NameHash, W: Host, L: Ledger>(
     alloc: Global,
     store: &mut S,

@@ -21,9 +21,9 @@ use uf_store::{Steps, Store, StoreFault};
 
 /// Writes the file or the directory that a CID denotes to a path of a host, where nothing is there and the path's
 /// folder is. That of the empty path is the working folder, and the writing then fails. Slashes at the end of the path
-/// are taken off. All of it is read first, so that nothing is written of what denotes no tree. Then each folder is made
-/// before its members, which are written in byte order of their names, a file piece by piece. After a failed write all
-/// that was written stays. Depth and visits are counted anew for each file and directory.
+/// are taken off. All of it is read first, so that nothing is written of what denotes no tree. Then each folder is
+/// made before its members, which are written in byte order of their names, a file piece by piece. After a failed
+/// write all that was written stays. Depth and visits are counted anew for each file and directory.
 pub fn get<S: Store, W: Host, L: Ledger>(
     alloc: Global,
     store: &mut S,

@@ -35,7 +35,8 @@ impl Copied for AddedRow {
 /// A list of rows: what is in a folder comes before the folder.
 pub type AddedRows = Seq<AddedRow>;
 
-// What an import keeps while it walks: the buffer into which every file is read, and the rows of what was added so far.
+// What an import keeps while it walks: the buffer into which every file is read, and the rows of what was added so
+// far.
 #[derive(Drop)]
 pub struct Import {
     pub alloc: Global,

@@ -12,8 +12,8 @@ ghost use Rattle.uf_store.specs.Faults.{NoneIsBad};
 ghost use Rattle.uf_tree.specs.Names.{names_cmp};
 ghost use Rattle.uf_tree.specs.Tree.{Entries, Tree};
 ghost use Rattle.uf_host.specs.Faults.{IsPutFault, edge_fault, is_write_fault};
-ghost use Rattle.uf_host.specs.Places.{AppendsPiece, ChangesAt, ChangesIn, MakesFolderAt, Puts, PutsFile, TakesMembers};
-ghost use Rattle.uf_host.specs.Places.{places_in, places_of};
+ghost use Rattle.uf_host.specs.Places.{AppendsPiece, ChangesAt, ChangesIn, MakesFolderAt, Puts, PutsFile};
+ghost use Rattle.uf_host.specs.Places.{TakesMembers, places_in, places_of};
 
 use crate::HostFault;
 use crate::site::path_of;

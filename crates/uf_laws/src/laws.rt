@@ -1,6 +1,6 @@
 //! Laws of the definitions.
-ghost use Rattle.std.specs.Prelude.{◌≡◌, Bool, true, false, ◌≤◌, ◌<◌, ◌*◌, ◌^◌, ◌↔◌, ◌==◌, Option, None, Some, ℕ, List};
-ghost use Rattle.std.specs.Prelude.{[], ◌∷◌, ◌+◌, ◌++◌, length, map, IsTrue, if◌then◌else◌};
+ghost use Rattle.std.specs.Prelude.{◌≡◌, Bool, true, false, ◌≤◌, ◌<◌, ◌*◌, ◌^◌, ◌↔◌, ◌==◌, Option, None, Some, ℕ};
+ghost use Rattle.std.specs.Prelude.{List, [], ◌∷◌, ◌+◌, ◌++◌, length, map, IsTrue, if◌then◌else◌};
 ghost use Rattle.std.specs.FinMap.Entries.{is_sorted, find};
 ghost use Rattle.std.specs.List.{AllByRecursion, range_with_len};
 ghost use Rattle.uf_cid.specs.Blocks.{Held, Lookup, Holds, Agrees};
@@ -21,8 +21,8 @@ ghost use Rattle.uf_laws.specs.Least.{Least};
 ghost use Rattle.uf_tree.specs.Metas.{is_meta, none};
 ghost use Rattle.uf_tree.specs.Names.{names_cmp};
 ghost use Rattle.uf_tree.specs.Profiles.{is_profile, most_bytes};
-ghost use Rattle.uf_tree.specs.Roles.{IsCanonicalDirectory, IsCanonicalShard, IsCanonicalFileNode, IsSpanned, MayCarry};
-ghost use Rattle.uf_tree.specs.Roles.{Root, Below};
+ghost use Rattle.uf_tree.specs.Roles.{IsCanonicalDirectory, IsCanonicalShard, IsCanonicalFileNode, IsSpanned};
+ghost use Rattle.uf_tree.specs.Roles.{MayCarry, Root, Below};
 ghost use Rattle.uf_tree.specs.Nodes.{Named, InSlot, file_block, dir_block, shard_block};
 ghost use Rattle.uf_tree.specs.Shardable.{HasShard};
 ghost use Rattle.uf_tree.specs.ShardPlan.{shard, bucket, shard_items, slot_item, twins, same_slots, same_hash};
@@ -180,8 +180,8 @@ pub fn the_slots_of_a_shard_are_valid()
 
 /// The nodes of every file are valid, its root with its metadata.
 pub fn the_nodes_of_a_file_are_valid()
-    ensures { (X : List ℕ → List ℕ) (p : Profile) (m : Meta) (k : ℕ) (bytes : List ℕ) → IsHash X → IsTrue (is_profile p)
-        → IsTrue (is_meta m)
+    ensures { (X : List ℕ → List ℕ) (p : Profile) (m : Meta) (k : ℕ) (bytes : List ℕ) → IsHash X
+        → IsTrue (is_profile p) → IsTrue (is_meta m)
         → length bytes ≤ span p.chunk p.width (k + 1) → length bytes < 2 ^ 63
         → IsFileNode (root_node m (map (part_over X p.chunk p.width k) (groups (span p.chunk p.width k) bytes))) }
 {}

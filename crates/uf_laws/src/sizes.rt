@@ -30,8 +30,8 @@ pub fn a_replacement_leaves_a_plan()
         (l : List Named) → IsHash X → IsDirectory l → find names_cmp name l ≡ Some old
         → IsEntry e → e.tsize ≤ old.tsize → dir_refusal X N p m l ≡ None
         → dir_refusal X N p m (with_name name e l) ≡ None }
-    ensures no_greater { (X : List ℕ → List ℕ) (N : List ℕ → ℕ) (p : Profile) (m : Meta) (name : List ℕ) (old e : Entry)
-        (l : List Named) → IsHash X → IsDirectory l → find names_cmp name l ≡ Some old
+    ensures no_greater { (X : List ℕ → List ℕ) (N : List ℕ → ℕ) (p : Profile) (m : Meta) (name : List ℕ)
+        (old e : Entry) (l : List Named) → IsHash X → IsDirectory l → find names_cmp name l ≡ Some old
         → IsEntry e → e.tsize ≤ old.tsize → (own_plan X N p m (with_name name e l)).entry.tsize
         ≤ (own_plan X N p m l).entry.tsize }
 {}

@@ -119,7 +119,8 @@ fn read_between<I: Source>(input: &mut I, buffer: &mut Vec<u8>, from: usize, to:
     requires fits { to ≤ vec_len buffer.old }
     ensures len { vec_len buffer.new ≡ vec_len buffer.old }
     ensures front { take from buffer.new.items ≡ take from buffer.old.items }
-    ensures bytes { Reads result (take (to - from) (drop from buffer.new.items)) (I.left input.old) (I.left input.new) }
+    ensures bytes { Reads result (take (to - from) (drop from buffer.new.items)) (I.left input.old)
+        (I.left input.new) }
     ensures counts { Counts (is_read_fault result) (I.faults input.old) (I.faults input.new) }
 {
     input.read(&mut buffer[from..to])

@@ -30,7 +30,8 @@ pub fn the_reach_is_what_is_reached()
 
 /// The order below the first root is the prefix of the reach.
 pub fn the_first_root_comes_first()
-    ensures { (held : Lookup) (most : ℕ) (root : Cid) (roots list : List Cid) → reach held most (root ∷ roots) ≡ Ok list
+    ensures { (held : Lookup) (most : ℕ) (root : Cid) (roots list : List Cid)
+        → reach held most (root ∷ roots) ≡ Ok list
         → (front : List Cid) × (rest : List Cid) × (order held most root ≡ Ok front) × (list ≡ front ++ rest) }
 {}
 

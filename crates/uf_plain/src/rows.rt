@@ -86,8 +86,8 @@ pub fn copies_go_as_told()
     ensures refused { spotted (record { names = []; into = true }) None (Nothing none) ≡ Err rule.RootRefused }
 {}
 
-/// A file that is written into, cut or emptied keeps its metadata, and so does the directory that it is in; one that is
-/// created has none.
+/// A file that is written into, cut or emptied keeps its metadata, and so does the directory that it is in; one that
+/// is created has none.
 pub fn metadata_is_kept()
     ensures written { written (record { offset = 1; create = true; cut = false }) (codes "z") (codes "f" ∷ [])
         (With (codes "f") (File (record { mode = Some 420; mtime = None }) (codes "abc"))

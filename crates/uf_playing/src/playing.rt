@@ -57,8 +57,8 @@ fn call_each<C: Caller, X: BlockHash, L: Ledger>(
     Ok(())
 }
 
-// Makes calls on each prefix of the input over an empty store, and tells what came of them where that isn't what came of
-// the prefix before: `! fronts CALL then CALL`.
+// Makes calls on each prefix of the input over an empty store, and tells what came of them where that isn't what came
+// of the prefix before: `! fronts CALL then CALL`.
 fn call_fronts<C: Caller, X: BlockHash, L: Ledger>(
     scene: &mut Scene<X>,
     line: &str,

@@ -9,7 +9,8 @@ use uf_edge::{Calls, MemHost};
 use uf_store::MemStore;
 use uf_testing::{calls, feed, number_of, say, word_and_rest};
 
-/// What calls are made over. What owns several of these leaves at one place, since each way out of it has to be proved.
+/// What calls are made over. What owns several of these leaves at one place, since each way out of it has to be
+/// proved.
 #[derive(Drop)]
 pub struct Scene<X: BlockHash> {
     pub alloc: Global,

@@ -23,8 +23,8 @@ pub fn pulled_blocks_are_good()
         → AreGood hash (due hash most root held bytes).blocks }
 {}
 
-/// Each block that is asked for isn't held then, and is the root or linked by a block that is; those that were answered
-/// are held from then on. So no block is asked for that was held at first, and none is asked for twice.
+/// Each block that is asked for isn't held then, and is the root or linked by a block that is; those that were
+/// answered are held from then on. So no block is asked for that was held at first, and none is asked for twice.
 pub fn missing_blocks_are_asked_for_once()
     ensures linked { (hash : List ℕ → List ℕ) (most : ℕ) (root : Cid) (held : Lookup) (bytes : List ℕ)
         → AreNextAsked root held (due hash most root held bytes).wants (due hash most root held bytes).blocks }

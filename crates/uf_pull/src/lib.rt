@@ -1,4 +1,5 @@
-//! Blocks asked for and answered over two streams: a DAG pulled from a peer that may lie, repeat or stop, and the peer.
+//! Blocks asked for and answered over two streams: a DAG pulled from a peer that may lie, repeat or stop, and the
+//! peer.
 #![tactic(auto)]
 
 mod fault;

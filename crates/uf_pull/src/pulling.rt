@@ -46,7 +46,8 @@ pub fn pull<S: Store, I: Source, O: Sink, L: Ledger>(
     ensures some { WritesBytes (O.holds out.old) (O.holds out.new) }
 
     // After Ok all below the CID is held, and exactly what of it wasn't held was asked for.
-    ensures wants { (t u : Contents) (bytes : List ℕ) → (S.seen store.old).told ≡ Some t → I.left input.old ≡ Some bytes
+    ensures wants { (t u : Contents) (bytes : List ℕ) → (S.seen store.old).told ≡ Some t
+        → I.left input.old ≡ Some bytes
         → (S.seen store.new).told ≡ Some u → OnOk result (AsksForUnheld most cid.now (held_at t) (held_at u)
         (due S.X.block32 most cid.now (held_at t) bytes).wants) }
 

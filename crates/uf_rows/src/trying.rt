@@ -9,8 +9,8 @@ use uf_murmur::NameHash;
 use uf_store::{CallKind, Steps};
 use uf_testing::{ROOMY, block_of, number_and_rest};
 
-/// The answers of a command that is done again and again: that of now, the one before, and the one where nothing was in
-/// its way.
+/// The answers of a command that is done again and again: that of now, the one before, and the one where nothing was
+/// in its way.
 #[derive(Drop)]
 pub struct Tries {
     alloc: Global,

@@ -50,8 +50,8 @@ pub fn equal_roots_compare_as_one_tree()
         → FindsOneTree X t u (verdict left right most (entry X N p t).cid (entry X N q u).cid) }
 {}
 
-/// Where the blocks of a tree's plan are held, the order below its root is of just their CIDs, unless it is longer than
-/// it may be: nothing is missing, and each block is read.
+/// Where the blocks of a tree's plan are held, the order below its root is of just their CIDs, unless it is longer
+/// than it may be: nothing is missing, and each block is read.
 pub fn the_order_of_a_plan_is_its_blocks()
     ensures { (X : List ℕ → List ℕ) (N : List ℕ → ℕ) (p : Profile) (t : Tree) (held : Lookup) (most : ℕ)
         → IsHash X → ((name : List ℕ) → N name < 2 ^ 64) → IsTrue (is_profile p) → IsTrue (is_tree t)

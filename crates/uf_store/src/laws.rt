@@ -53,8 +53,8 @@ pub fn good_blocks_stay_held()
     ensures kept { (hash : List ℕ → List ℕ) (a b : Told) → WritesOnly hash a b → KeepsGood hash a b }
     ensures goes_on { (hash : List ℕ → List ℕ) (a b c : Told) → KeepsGood hash a b → KeepsGood hash b c
         → KeepsGood hash a c }
-    ensures held { (hash : List ℕ → List ℕ) (a b : Told) (blocks : List Held) → AreGood hash blocks → KeepsGood hash a b
-        → Holds a blocks → Holds b blocks }
+    ensures held { (hash : List ℕ → List ℕ) (a b : Told) (blocks : List Held) → AreGood hash blocks
+        → KeepsGood hash a b → Holds a blocks → Holds b blocks }
 {}
 
 /// A store that agrees with blocks before calls and after them does so between the calls too: none of them gave one of

@@ -1,4 +1,5 @@
-//! The store of blocks and notes as every layer above sees it, the words for what its calls leave and show, and stores.
+//! The store of blocks and notes as every layer above sees it, the words for what its calls leave and show, and
+//! stores.
 #![tactic(auto)]
 
 mod callers;

@@ -1,6 +1,6 @@
 //! A store in memory. It tells, and it can be made to fail, to lose blocks and to hold wrong ones.
-ghost use Rattle.std.specs.Prelude.{◌≡◌, ◌≢◌, ◌≤◌, ◌<◌, ◌+◌, ◌^◌, ◌==◌, ◌↔◌, ◌⊎◌, ℕ, List, ◌∷◌, [], ◌++◌, length, take};
-ghost use Rattle.std.specs.Prelude.{Some, None, IsSome, Contains, OnOk, OnErr, IfOk, IsTrue, true};
+ghost use Rattle.std.specs.Prelude.{◌≡◌, ◌≢◌, ◌≤◌, ◌<◌, ◌+◌, ◌^◌, ◌==◌, ◌↔◌, ◌⊎◌, ℕ, List, ◌∷◌, [], ◌++◌, length};
+ghost use Rattle.std.specs.Prelude.{take, Some, None, IsSome, Contains, OnOk, OnErr, IfOk, IsTrue, true};
 ghost use Rattle.std.specs.FinMap.{from_entries, insert, len};
 ghost use Rattle.uf_store.specs.Whole.{IsWhole};
 ghost use Rattle.uf_cid.specs.Cid.{cid_cmp};
@@ -98,8 +98,8 @@ impl<X: BlockHash> MemStore<X> {
     /// sync.
     pub fn after_stop(&self, at: usize, lost: &Calls) -> Result<MemStore<X>, Memory>
         requires { at ≤ length (contents_of self.now).writes }
-        ensures seen { IfOk result (λ s. memory_seen s
-            ≡ record new_seen { told = Some (written (after_stop lost.now (take at (contents_of self.now).writes))) }) }
+        ensures seen { IfOk result (λ s. memory_seen s ≡ record new_seen
+            { told = Some (written (after_stop lost.now (take at (contents_of self.now).writes))) }) }
         ensures plain { IfOk result (λ s. IsPlain (contents_of s)) }
         ensures failures { IfOk result (λ s. failures_of s ≡ no_failures) }
     {

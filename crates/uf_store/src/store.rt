@@ -141,8 +141,8 @@ pub trait Store {
         ensures seen { Loads Self.X.block32 cid.now result (seen self.old) (seen self.new) }
         ensures touch { touches.new ≡ touches.old + 1 };
 
-    /// Says whether a block is there, without reading it: one that is damaged is there too. No other block is lent. One
-    /// touch.
+    /// Says whether a block is there, without reading it: one that is damaged is there too. No other block is lent.
+    /// One touch.
     fn holds<L: Ledger>(&mut self, cid: &Cid, touches: &mut Steps<L>) -> Presence
         ensures seen { Looks cid.now result (seen self.old) (seen self.new) }
         ensures touch { touches.new ≡ touches.old + 1 };

@@ -8,8 +8,8 @@ use std::alloc::Global;
 use uf_cid::{Memory, Text};
 use uf_edge::{Calls, Host, Kind, MemHost, Put};
 
-/// What is in a host: for each the folder that it is in (none is the working folder), its name, and the bytes of a file
-/// or none of a folder.
+/// What is in a host: for each the folder that it is in (none is the working folder), its name, and the bytes of a
+/// file or none of a folder.
 pub type HostNode<'a> = (&'a str, &'a str, Option<&'a [u8]>);
 
 /// Whether bytes may be the name of a member.

@@ -1,5 +1,5 @@
-//! A directory of 500 names in shards: what a search, a trail and both in one walk answer, also where one of the blocks
-//! that decide the name is lost; and how little the removal of a name that isn't there loads.
+//! A directory of 500 names in shards: what a search, a trail and both in one walk answer, also where one of the
+//! blocks that decide the name is lost; and how little the removal of a name that isn't there loads.
 ghost use Rattle.std.specs.Prelude.{◌≡◌, ◌<◌, IsTrue};
 ghost use Rattle.uf_tree.specs.Profiles.{is_profile};
 
@@ -201,8 +201,8 @@ fn is_light<L: Ledger>(
     Some(left.is_ok())
 }
 
-// The first name of which the calls aren't at one; whether each block was lost in turn; and which removals load little:
-// of a name that isn't there, and of one that is.
+// The first name of which the calls aren't at one; whether each block was lost in turn; and which removals load
+// little: of a name that isn't there, and of one that is.
 type Answer = (Option<usize>, bool, Option<bool>, Option<bool>);
 
 fn answers<L: Ledger>(alloc: Global, blank: Blank) -> Option<Answer>

@@ -179,8 +179,8 @@ fn check_edit<L: Ledger>(
     Ok(())
 }
 
-// All edits of a file at one place. Their store is their own: each counted edit leaves the number of a call that was to
-// fail, and each load looks through those.
+// All edits of a file at one place. Their store is their own: each counted edit leaves the number of a call that was
+// to fail, and each load looks through those.
 fn check_place<L: Ledger>(
     alloc: Global,
     sizes: TableSizes,

@@ -5,8 +5,8 @@ ghost use Rattle.uf_tree.specs.Profiles.{is_profile, most_bytes as most_bytes_of
 
 use crate::Profile;
 
-/// How many bytes a directory may stand for, each block counted where it is linked: the greatest Tsize of a plan. Above
-/// it there is none (`TooBig`).
+/// How many bytes a directory may stand for, each block counted where it is linked: the greatest Tsize of a plan.
+/// Above it there is none (`TooBig`).
 pub const MOST_TSIZE: u64 = 1 << 62;
 
 /// The numbers are no profile: one of them is outside its range.

@@ -31,8 +31,8 @@ pub fn multi_takes_the_shortest_alone()
 
 /// `read_proto` takes numbers below 2^64 alone.
 pub fn proto_takes_64_bits()
-    ensures { (bytes : List ℕ) → (n used : ℕ) → AllByRecursion (λ b. b < 256) bytes → read_proto_of bytes ≡ Value n used
-        → n < 2 ^ 64 }
+    ensures { (bytes : List ℕ) → (n used : ℕ) → AllByRecursion (λ b. b < 256) bytes
+        → read_proto_of bytes ≡ Value n used → n < 2 ^ 64 }
 {}
 
 /// More bytes are wanted exactly where there are fewer than ten, or nine, and each of them has the high bit.

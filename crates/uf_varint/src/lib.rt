@@ -1,5 +1,5 @@
-//! Varints: numbers of seven bits a byte, the least significant group first (multiformats unsigned-varint, and Protocol
-//! Buffers, "Base 128 Varints"), and the fields of messages that are made of them (Protocol Buffers, "Message
+//! Varints: numbers of seven bits a byte, the least significant group first (multiformats unsigned-varint, and
+//! Protocol Buffers, "Base 128 Varints"), and the fields of messages that are made of them (Protocol Buffers, "Message
 //! Structure").
 #![tactic(auto)]
 

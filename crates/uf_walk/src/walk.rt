@@ -13,9 +13,9 @@ use std::alloc::Global;
 use std::marker::Model;
 use uf_cid::{Cid, Memory};
 
-/// A walk over links from roots in turn. It hands out each CID once, at its first visit, depth first and the links of a
-/// node from left to right; the caller hands in the block of each. It holds the CIDs that it met, and the links still
-/// ahead.
+/// A walk over links from roots in turn. It hands out each CID once, at its first visit, depth first and the links of
+/// a node from left to right; the caller hands in the block of each. It holds the CIDs that it met, and the links
+/// still ahead.
 #[derive(Drop)]
 pub struct Walk {
     alloc: Global,
