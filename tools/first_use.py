@@ -35,8 +35,6 @@ LEFT_OUT = shutil.ignore_patterns("out", "must-fail", "edits")
 GIB = 1 << 30
 CORES = len(os.sched_getaffinity(0))
 KEPT_PROGRAMS = 4
-# A crate that is reckoned to take more processor seconds may get a second process.
-LARGE = 60
 # What the kit's parser of words and the machine's files add to the proofs of the crates over them, in processor seconds.
 BESIDES = {"uf_words": 160, "uf_disk": 60}
 
@@ -277,12 +275,9 @@ class Work:
         return self.behind[crate] * CORES / sum(self.open().values())
 
     def jobs_for(self, crate, busy, waiting):
-        """How many lanes a crate gets: a large one two, where it is urgent or no other can use the second. Each process loads all
-        crates below first: by measure four of them took twice the processor time of one for uf_top, and eighteen times for
-        uf_cached."""
-        most = 2 if self.cost[crate] > LARGE else 1
-        wanted = 1 + (self.urgency(crate) > 1.0)
-        return min(most, max(1, self.room - busy), max(wanted, (self.lanes - busy) // waiting))
+        """How many lanes a crate gets: all that no other can use, and where it is urgent more than one, which later ones wait for."""
+        wanted = 1 + sum(self.urgency(crate) > it for it in (1.0, 1.4, 1.8))
+        return min(4, max(1, self.room - busy), max(wanted, (self.lanes - busy) // waiting))
 
     def pace(self):
         """How much longer a proof takes here than it was reckoned."""
@@ -315,7 +310,7 @@ class Work:
         """About how many seconds are left: what is open over all cores, and no less than the longest way to the program."""
         open_, way = self.open(), {}
         for crate in self.sources.crates:
-            jobs = min(2, CORES) if self.cost[crate] > LARGE else 1
+            jobs = min(4, CORES) if crate == "uf_top" else 1
             way[crate] = max([way[it] for it in self.sources.uses[crate]], default=0) + open_.get(crate, 0) / jobs
         return self.pace() * max(sum(open_.values()) / CORES, way[TOOL])
 
