@@ -31,8 +31,8 @@ use Rattle.uf_fileedit.specs.declared.changing.PartEdit.{PartEdit}
 
 -- the bytes of a file that is cut or filled to this length, or else to no less than the end of the piece that is laid
 -- over it
-abbrev pub edited_by : Option ℕ → ℕ → List ℕ → List ℕ → List ℕ
-edited_by wanted offset piece b = overlaid (size_after (length b) wanted offset (length piece)) b offset piece
+abbrev pub bytes_edited : Option ℕ → ℕ → List ℕ → List ℕ → List ℕ
+bytes_edited wanted offset piece b = overlaid (size_after (length b) wanted offset (length piece)) b offset piece
 
 -- the store agrees with these blocks before and after, and has stayed calm: then a fault is that one of them is lost,
 -- or out of memory

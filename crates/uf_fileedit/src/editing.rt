@@ -10,7 +10,7 @@ ghost use Rattle.uf_fileedit.specs.Edits.{cut_to, laid};
 ghost use Rattle.uf_fileedit.specs.Touches.{Climbs, TouchedFirst};
 ghost use Rattle.uf_fileedit.specs.Files.{AgreesWithEdited, CostsCut, CostsEdit, CostsWrite, EditsFile, GivesEdited};
 ghost use Rattle.uf_fileedit.specs.Files.{HoldsEdited, LeavesSame, OfAgreed, RefusesLongWrite, SavesInFile};
-ghost use Rattle.uf_fileedit.specs.Files.{ShowsInEdited, edited_by};
+ghost use Rattle.uf_fileedit.specs.Files.{ShowsInEdited, bytes_edited};
 
 use crate::changing::PartEdit;
 use crate::growing::remade;
@@ -123,7 +123,7 @@ fn edit<S: Store, L: Ledger>(
     requires within { IfSome extent.wanted (λ n. LiesWithin n extent.offset piece.now) }
     requires small { IfSome extent.wanted (λ n. n < 2 ^ 63) }
     requires end { extent.offset + length piece.now < 2 ^ 63 }
-    ensures gives { GivesEdited S.X.block32 p.now entry.now (edited_by extent.wanted extent.offset piece.now)
+    ensures gives { GivesEdited S.X.block32 p.now entry.now (bytes_edited extent.wanted extent.offset piece.now)
         (S.seen store.old) (S.seen store.new) result }
     ensures saves { SavesInFile S.X.block32 p.now entry.now.cid (S.seen store.old) (S.seen store.new) result }
     ensures touched { Climbs result touches.old touches.new }
