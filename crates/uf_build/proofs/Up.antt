@@ -73,6 +73,7 @@ module _ (X : List ℕ → List ℕ) (w : ℕ) where
       by (suc level) [] h e = absurd (omega arith)
       by (suc level) (f ∷ gs) h e = by level gs (omega arith) e
 
+module _ (X : List ℕ → List ℕ) where
   pub close-past : (meta : Meta) (level : ℕ) (c : Part) (rows : List (List Part)) → level ≡ length rows → c ≡ close_up X meta level rows c
   close-past meta zero c [] e = refl
   close-past meta zero c (g ∷ gs) e = absurd (omega arith)
@@ -188,6 +189,15 @@ module _ (X : List ℕ → List ℕ) (w : ℕ) where
       let more : node_held X h ∷ held_up X w (level + 1) (node_part X h) (set rows level []) ≡ held_up X w level m rows = (push-node level m (node_part X h) rows g h [] lt at is full refl refl).1 in
       omega (arith, ap length more)
 
+  -- the bytes of a group go up with its node
+  pub sizes-up : (level : ℕ) (m node : Part) (rows : List (List Part)) (g h empty : List Part) → level < length rows → g ≡ get_or rows level g → h ≡ g ++ m ∷ [] → node ≡ node_part X h → empty ≡ []
+      → sizes_of (set rows level empty) + node.size ≡ sizes_of rows + m.size
+  sizes-up level m node rows g h empty lt at is made none =
+      let emptied : sizes_of (set rows level empty) + size_of g ≡ sizes_of rows = ap (λ e. sizes_of (set rows level e) + size_of g) none ∙ sizes-emptied level rows g lt at in
+      let size : node.size ≡ size_of g + m.size = ap (λ (p : Part). p.size) made ∙ ap size_of is ∙ size-push g m in
+      omega arith
+
+module _ (X : List ℕ → List ℕ) where
   tops : (a b : ℕ) → a ≤ b → ((nat_eq a b ≡ true) × (a ≡ b)) ⊎ ((nat_eq a b ≡ false) × (a < b))
   tops a b h = by (cases_eq a b)
     where
@@ -203,21 +213,13 @@ module _ (X : List ℕ → List ℕ) (w : ℕ) where
       let top = tops (level + 1) (length rows) (omega arith) in
       let same : up ≡ carry X meta (nat_eq (level + 1) (length rows)) (g ++ c ∷ []) = made ∙ ap (λ n. carry X meta (nat_eq (level + 1) n) (row ++ c ∷ [])) count ∙ ap (λ g. carry X meta (nat_eq (level + 1) (length rows)) (g ++ c ∷ [])) is in (
         ap (λ e. close_up X meta (level + 1) (set rows level e) up) none ∙ ap (close_up X meta (level + 1) (set rows level [])) same
-            ∙ close-step X w meta level (nat_eq (level + 1) (length rows)) c rows g lt at top,
+            ∙ close-step X meta level (nat_eq (level + 1) (length rows)) c rows g lt at top,
         ap (λ n. carry_held X meta (nat_eq (level + 1) n) (row ++ c ∷ []) ++ close_held_up X meta (level + 1) (set rows level empty) up) count
             ∙ ap (λ g. carry_held X meta (nat_eq (level + 1) (length rows)) (g ++ c ∷ []) ++ close_held_up X meta (level + 1) (set rows level empty) up) is
             ∙ ap (λ e. carry_held X meta (nat_eq (level + 1) (length rows)) (g ++ c ∷ []) ++ close_held_up X meta (level + 1) (set rows level e) up) none
             ∙ ap (λ up. carry_held X meta (nat_eq (level + 1) (length rows)) (g ++ c ∷ []) ++ close_held_up X meta (level + 1) (set rows level []) up) same
-            ∙ close_held-step X w meta level (nat_eq (level + 1) (length rows)) c rows g lt at top,
+            ∙ close_held-step X meta level (nat_eq (level + 1) (length rows)) c rows g lt at top,
       )
-
-  -- the bytes of a group go up with its node
-  pub sizes-up : (level : ℕ) (m node : Part) (rows : List (List Part)) (g h empty : List Part) → level < length rows → g ≡ get_or rows level g → h ≡ g ++ m ∷ [] → node ≡ node_part X h → empty ≡ []
-      → sizes_of (set rows level empty) + node.size ≡ sizes_of rows + m.size
-  sizes-up level m node rows g h empty lt at is made none =
-      let emptied : sizes_of (set rows level empty) + size_of g ≡ sizes_of rows = ap (λ e. sizes_of (set rows level e) + size_of g) none ∙ sizes-emptied level rows g lt at in
-      let size : node.size ≡ size_of g + m.size = ap (λ (p : Part). p.size) made ∙ ap size_of is ∙ size-push g m in
-      omega arith
 
   pub sizes-closed : (meta : Meta) (level : ℕ) (is_top : Bool) (c up : Part) (rows : List (List Part)) (g row empty : List Part) → level < length rows → g ≡ get_or rows level g → row ≡ g
       → up ≡ carry X meta is_top (row ++ c ∷ []) → empty ≡ [] → sizes_of (set rows level empty) + up.size ≡ sizes_of rows + c.size
@@ -226,8 +228,13 @@ module _ (X : List ℕ → List ℕ) (w : ℕ) where
       let size : up.size ≡ size_of g + c.size = ap (λ (p : Part). p.size) made ∙ size-above X meta is_top (row ++ c ∷ []) ∙ ap (λ g. size_of (g ++ c ∷ [])) is ∙ size-push g c in
       omega arith
 
-  pub short-up : (level : ℕ) (rows : List (List Part)) (empty : List Part) → 1 ≤ w → empty ≡ [] → AreShort w rows → AreShort w (set rows level empty)
-  short-up level rows empty h none all = subst (λ e. AreShort w (set rows level e)) (sym none) (short-emptied w level rows h all)
+pub short-up : (w level : ℕ) (rows : List (List Part)) (empty : List Part) → 1 ≤ w → empty ≡ [] → AreShort w rows → AreShort w (set rows level empty)
+short-up w level rows empty h none all = subst (λ e. AreShort w (set rows level e)) (sym none) (short-emptied w level rows h all)
+
+-- groups that have room in a row have it in a wider one
+pub short-wider : (w v : ℕ) (rows : List (List Part)) → w ≤ v → AreShort w rows → AreShort v rows
+short-wider w v [] h all = tt
+short-wider w v (g ∷ gs) h all = (omega (arith, all.0), short-wider w v gs h all.1)
 
 pub falls : (level : ℕ) (rows : List (List Part)) (empty : List Part) → level < length rows → length (set rows level empty) - (level + 1) < length rows - level
 falls level rows empty h = omega (arith, length-set rows level empty)

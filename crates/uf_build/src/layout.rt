@@ -104,13 +104,11 @@ impl Layout {
         ensures builds { OnlyBuilds S.X.block32 (fault_in result) (S.seen store.old) (S.seen store.new) }
         ensures no_other { EndsAmong S.X.block32 meta.now self (S.seen store.old).told (S.seen store.new).told }
     {
-        let width = self.profile.width as usize;
         self.end_last(store, touches)?;
         match self.opened.last {
             Some(last) => {
                 let part = rows::close_all(
                     self.alloc,
-                    width,
                     &mut self.opened.rows,
                     last,
                     meta,

@@ -90,15 +90,13 @@ fn push_first(alloc: Global, rows: &mut Vec<Parts>, part: Part) -> Result<(), Me
 // Closes all open groups after this last part. Answers the part that stands over all rows, with the file's metadata.
 pub fn close_all<S: Store, L: Ledger>(
     alloc: Global,
-    width: usize,
     rows: &mut Vec<Parts>,
     last: Part,
     meta: &Meta,
     store: &mut S,
     touches: &mut Steps<L>,
 ) -> Result<Part, StoreFault>
-    requires width { IsWidth width }
-    requires short { AreShort width rows.old.items }
+    requires short { AreShort 1024 rows.old.items }
     requires size { sizes_of rows.old.items + last.size < 2 ^ 63 }
     requires good { IsTrue (is_meta meta.now) }
     ensures closed { IfOk result (λ part. ClosesRows S.X.block32 meta.now 0 (some_row rows.old.items) last part
@@ -110,7 +108,7 @@ pub fn close_all<S: Store, L: Ledger>(
         (S.seen store.old).told (S.seen store.new).told }
 {
     with_row(alloc, rows)?;
-    close(alloc, width, rows, 0, last, meta, store, touches)
+    close(alloc, rows, 0, last, meta, store, touches)
 }
 
 // At least one row.
@@ -127,7 +125,6 @@ fn with_row(alloc: Global, rows: &mut Vec<Parts>) -> Result<(), Memory>
 // stands over all rows in the end, with the file's metadata.
 fn close<S: Store, L: Ledger>(
     alloc: Global,
-    width: usize,
     rows: &mut Vec<Parts>,
     level: usize,
     carried: Part,
@@ -135,9 +132,8 @@ fn close<S: Store, L: Ledger>(
     store: &mut S,
     touches: &mut Steps<L>,
 ) -> Result<Part, StoreFault>
-    requires width { IsWidth width }
     requires level { level ≤ length rows.old.items }
-    requires short { AreShort width rows.old.items }
+    requires short { AreShort 1024 rows.old.items }
     requires size { sizes_of rows.old.items + carried.size < 2 ^ 63 }
     requires good { IsTrue (is_meta meta.now) }
     ensures closed { IfOk result (λ part. ClosesRows S.X.block32 meta.now level rows.old.items carried part
@@ -154,7 +150,7 @@ fn close<S: Store, L: Ledger>(
     let is_top = level + 1 == rows.len();
     let row = mem::replace(&mut rows[level], Seq::new(alloc));
     let up = close_row(alloc, row, carried, is_top, meta, store, touches)?;
-    close(alloc, width, rows, level + 1, up, meta, store, touches)
+    close(alloc, rows, level + 1, up, meta, store, touches)
 }
 
 // What a row hands up as it ends.

@@ -17,9 +17,9 @@ pub returns-then-level-len-clause-closed : goal.returns-then-level-len-clause-cl
 returns-then-level-len-clause-closed g t c =
     let hash : List ℕ → List ℕ = g.S.X.BlockHash.block32 in
     let top : c.args.level ≡ length c.args.rows.now.items = grind (arith, common_steps) in
-    let none = close_held-past hash c.args.width c.args.meta.now c.args.level c.args.carried c.args.rows.now.items top in
+    let none = close_held-past hash c.args.meta.now c.args.level c.args.carried c.args.rows.now.items top in
     record {
-      stands = close-past hash c.args.width c.args.meta.now c.args.level _ c.args.rows.now.items top;
+      stands = close-past hash c.args.meta.now c.args.level _ c.args.rows.now.items top;
       held = subst (λ (l : List Held). Holds (g.S.Store.seen c.args.store.now).told l) none (Holds-nil _);
       count = omega (arith, ap length none);
     }
@@ -29,7 +29,7 @@ returns-in_err-up-clause-touches g t c =
     let lt : c.args.level < length c.args.rows.now.items = grind (arith, common_steps) in
     let count : c.len-2.result ≡ length c.args.rows.now.items = grind (arith, common_steps) in
     let hash : List ℕ → List ℕ = g.S.X.BlockHash.block32 in
-    let same = close-next hash c.args.width c.args.meta.now c.args.level c.len-2.result c.args.carried _ c.args.rows.now.items c.index_mut.result.now c.replace-row.result [] lt
+    let same = close-next hash c.args.meta.now c.args.level c.len-2.result c.args.carried _ c.args.rows.now.items c.index_mut.result.now c.replace-row.result [] lt
     c.index_mut.ensures.value c.replace-row.ensures.value count refl refl in
     omega (arith, ap length same.1, length-append (carry_held hash c.args.meta.now (nat_eq (c.args.level + 1) c.len-2.result) (c.replace-row.result ++ c.args.carried ∷ [])), c.close_row.ensures.touches)
 
@@ -38,7 +38,7 @@ close-requires g t c κs within =
     let lt : c.args.level < length c.args.rows.now.items = grind (arith, common_steps) in
     let hash : List ℕ → List ℕ = g.S.X.BlockHash.block32 in
     let none : c.replace-row.new.dest ≡ [] = c.replace-row.ensures.after ∙ c.new.ensures in
-    let size = sizes-closed hash c.args.width c.args.meta.now c.args.level (nat_eq (c.args.level + 1) c.len-2.result) c.args.carried c.in_ok-up.up c.args.rows.now.items
+    let size = sizes-closed hash c.args.meta.now c.args.level (nat_eq (c.args.level + 1) c.len-2.result) c.args.carried c.in_ok-up.up c.args.rows.now.items
     c.index_mut.result.now c.replace-row.result c.replace-row.new.dest lt c.index_mut.ensures.value c.replace-row.ensures.value c.in_ok-up.ensures.ends.goes_up none in
     let less = falls c.args.level c.args.rows.now.items c.replace-row.new.dest lt in (
       search rules,
@@ -49,13 +49,10 @@ close-requires g t c κs within =
           (
             within.1.1,
             (
-              c.requires.width,
+              next-level c.args.level c.args.rows.now.items c.replace-row.new.dest lt,
               (
-                next-level c.args.level c.args.rows.now.items c.replace-row.new.dest lt,
-                (
-                  short-up hash c.args.width c.args.level c.args.rows.now.items c.replace-row.new.dest (omega (arith, c.requires.width.two)) none c.requires.short,
-                  (omega (arith, size, c.requires.size), c.requires.good),
-                ),
+                short-up 1024 c.args.level c.args.rows.now.items c.replace-row.new.dest (omega arith) none c.requires.short,
+                (omega (arith, size, c.requires.size), c.requires.good),
               ),
             ),
           ),
@@ -71,7 +68,7 @@ returns-clause-closed g t c =
     let none : c.replace-row.new.dest ≡ [] = c.replace-row.ensures.after ∙ c.new.ensures in
     let is_top = nat_eq (c.args.level + 1) c.len-2.result in
     let row : List Part = c.replace-row.result ++ c.args.carried ∷ [] in
-    let same = close-next hash c.args.width c.args.meta.now c.args.level c.len-2.result c.args.carried c.in_ok-up.up c.args.rows.now.items c.index_mut.result.now c.replace-row.result
+    let same = close-next hash c.args.meta.now c.args.level c.len-2.result c.args.carried c.in_ok-up.up c.args.rows.now.items c.index_mut.result.now c.replace-row.result
     c.replace-row.new.dest lt c.index_mut.ensures.value c.replace-row.ensures.value count c.in_ok-up.ensures.ends.goes_up none in
     IfOk-weaker c.close.result _ _ (λ part h. record {
       stands = h.stands ∙ same.0;
@@ -86,7 +83,7 @@ returns-clause-touches g t c =
     let count : c.len-2.result ≡ length c.args.rows.now.items = grind (arith, common_steps) in
     let hash : List ℕ → List ℕ = g.S.X.BlockHash.block32 in
     let none : c.replace-row.new.dest ≡ [] = c.replace-row.ensures.after ∙ c.new.ensures in
-    let same = close-next hash c.args.width c.args.meta.now c.args.level c.len-2.result c.args.carried c.in_ok-up.up c.args.rows.now.items c.index_mut.result.now c.replace-row.result
+    let same = close-next hash c.args.meta.now c.args.level c.len-2.result c.args.carried c.in_ok-up.up c.args.rows.now.items c.index_mut.result.now c.replace-row.result
     c.replace-row.new.dest lt c.index_mut.ensures.value c.replace-row.ensures.value count c.in_ok-up.ensures.ends.goes_up none in
     omega (
       arith,
@@ -109,7 +106,7 @@ returns-in_err-up-clause-no_other g t c =
     let is_top = nat_eq (c.args.level + 1) c.len-2.result in
     let nodes : List Held = carry_held hash m is_top row in
     let above : List Held = close_held_up hash m (c.args.level + 1) (set c.args.rows.now.items c.args.level []) (carry hash m is_top row) in
-    let same = close-next hash c.args.width m c.args.level c.len-2.result c.args.carried (carry hash m is_top row) c.args.rows.now.items c.index_mut.result.now c.replace-row.result [] lt
+    let same = close-next hash m c.args.level c.len-2.result c.args.carried (carry hash m is_top row) c.args.rows.now.items c.index_mut.result.now c.replace-row.result [] lt
     c.index_mut.ensures.value c.replace-row.ensures.value count refl refl in
     SavesAmong-more hash nodes (close_held_up hash m c.args.level c.args.rows.now.items c.args.carried) (g.S.Store.seen c.args.store.now).told (g.S.Store.seen c.close_row.new.store).told
     (subst (λ (l : List Held). AreAmong nodes l) same.1 (among-left nodes above)) c.close_row.ensures.no_other
@@ -121,7 +118,7 @@ returns-clause-no_other g t c =
     let hash : List ℕ → List ℕ = g.S.X.BlockHash.block32 in
     let m = c.args.meta.now in
     let none : c.replace-row.new.dest ≡ [] = c.replace-row.ensures.after ∙ c.new.ensures in
-    let same = close-next hash c.args.width m c.args.level c.len-2.result c.args.carried c.in_ok-up.up c.args.rows.now.items c.index_mut.result.now c.replace-row.result
+    let same = close-next hash m c.args.level c.len-2.result c.args.carried c.in_ok-up.up c.args.rows.now.items c.index_mut.result.now c.replace-row.result
     c.replace-row.new.dest lt c.index_mut.ensures.value c.replace-row.ensures.value count c.in_ok-up.ensures.ends.goes_up none in
     let nodes : List Held = carry_held hash m (nat_eq (c.args.level + 1) c.len-2.result) (c.replace-row.result ++ c.args.carried ∷ []) in
     let above : List Held = close_held_up hash m (c.args.level + 1) (set c.args.rows.now.items c.args.level c.replace-row.new.dest) c.in_ok-up.up in

@@ -12,6 +12,7 @@ use Rattle.uf_build.specs.Rows.{close_all, close_all_held, groups_in}
 use Rattle.uf_build.proofs.Among.{close-saves}
 use Rattle.uf_build.proofs.Calls.{builds-builds}
 use Rattle.uf_build.proofs.Ending.{entry-is, blocks-held, closed-all, closed-most}
+use Rattle.uf_build.proofs.Up.{short-wider}
 use Rattle.uf_build.proofs.layout.Layout.close.Goals as goal
 
 pub returns-in_err-part-in-Some-clause-most : goal.returns-in_err-part-in-Some-clause-most
@@ -65,7 +66,9 @@ pub unreachable-requires : goal.unreachable-requires
 unreachable-requires g c = omega (arith, c.in_ok-end_last.ensures.ends.some, ap (λ (last : List Part). length last) (ap option_to_list (sym c.in-None.is)))
 
 pub close_all-requires-clause-short : goal.close_all-requires-clause-short
-close_all-requires-clause-short g c = c.in_ok-end_last.ensures.ends.are_open.short.1
+close_all-requires-clause-short g c =
+    let p = kept c.args.self.profile c.requires.can.profile in
+    short-wider c.args.self.profile.width 1024 c.end_last.new.self.opened.rows.items p.few c.in_ok-end_last.ensures.ends.are_open.short.1
 
 pub returns-in_err-part-in-Some-clause-no_other : goal.returns-in_err-part-in-Some-clause-no_other
 returns-in_err-part-in-Some-clause-no_other g c = λ bytes h.
