@@ -116,22 +116,18 @@ module _ (held : Lookup) where
       by (Err e) = refl
 
   -- the ways of a shard tree are those of its first shard
-  pub first-frame : (frames : List Frame) (meta : Meta) (by : Cid) (left : ℕ) (links : List Link) (start : Ways) (n : ℕ) (met : Ways)
-      (m : ℕ) → frames ≡ record { by = by; left = left; links = links; at = 0 } ∷ [] → start ≡ []
-      → frames_ways held frames start n ≡ Ok (met, m)
-      → gathered_folder_behind meta (shard_ways (sub_ways held left) by left links [] n) ≡ Ok (IsFolder meta met, m)
-  first-frame frames meta by left links start n met m one none is =
-      let f : Frame = record { by = by; left = left; links = links; at = 0 } in
+  pub first-frame : (frames : List Frame) (meta : Meta) (f : Frame) (start : Ways) (n : ℕ) (met : Ways) (m : ℕ)
+      → frames ≡ f ∷ [] → start ≡ [] → frames_ways held frames start n ≡ Ok (met, m)
+      → gathered_folder_behind meta (frame_ways held f [] n) ≡ Ok (IsFolder meta met, m)
+  first-frame frames meta f start n met m one none is =
       ap (gathered_folder_behind meta) (sym (one_frame f [] n) ∙ ap (λ fs. frames_ways held fs [] n) (sym one)
       ∙ ap (λ ways. frames_ways held frames ways n) (sym none) ∙ is)
 
-  pub first-fault : (frames : List Frame) (meta : Meta) (by : Cid) (left : ℕ) (links : List Link) (start : Ways) (n : ℕ)
-      (fault : DagFault) → frames ≡ record { by = by; left = left; links = links; at = 0 } ∷ [] → start ≡ []
-      → IsFault (frames_ways held frames start n) fault
-      → IsFault (gathered_folder_behind meta (shard_ways (sub_ways held left) by left links [] n)) fault
-  first-fault frames meta by left links start n fault one none fails =
-      let f : Frame = record { by = by; left = left; links = links; at = 0 } in
-      fault-behind (shard_ways (sub_ways held left) by left links [] n) (λ all k. Ok (IsFolder meta all, k)) fault
+  pub first-fault : (frames : List Frame) (meta : Meta) (f : Frame) (start : Ways) (n : ℕ) (fault : DagFault)
+      → frames ≡ f ∷ [] → start ≡ [] → IsFault (frames_ways held frames start n) fault
+      → IsFault (gathered_folder_behind meta (frame_ways held f [] n)) fault
+  first-fault frames meta f start n fault one none fails =
+      fault-behind (frame_ways held f [] n) (λ all k. Ok (IsFolder meta all, k)) fault
       (fault-is (frames_ways held frames start n) _ fault (sym (one_frame f [] n) ∙ ap (λ fs. frames_ways held fs [] n) (sym one)
       ∙ ap (λ ways. frames_ways held frames ways n) (sym none)) fails)
 

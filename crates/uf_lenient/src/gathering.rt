@@ -5,9 +5,8 @@ ghost use Rattle.uf_cid.specs.declared.cid.Cid.{Cid as TheCid};
 ghost use Rattle.uf_lenient.specs.Answers.{FollowsReading, IsBare};
 ghost use Rattle.uf_tree.specs.Metas.{is_meta};
 ghost use Rattle.uf_lenient.specs.Metas.{IsGoodGathered};
-ghost use Rattle.uf_lenient.specs.Pending.{own_shard};
-ghost use Rattle.uf_lenient.specs.Reading.{Visits, Ways, behind_slot, gathered, is_digit, meet, meet_all, shard_ways};
-ghost use Rattle.uf_lenient.specs.Reading.{sub_ways};
+ghost use Rattle.uf_lenient.specs.Pending.{frame_ways, own_shard};
+ghost use Rattle.uf_lenient.specs.Reading.{Visits, Ways, behind_slot, gathered, is_digit, meet, meet_all};
 ghost use Rattle.uf_lenient.specs.Steps.{AddsEntries, gathered_folder, gathered_folder_behind};
 ghost use Rattle.uf_lenient.specs.Calls.{AddsFrames, AddsOneFrame, ReadsDag, SaysVisits, TouchesByVisit};
 
@@ -47,16 +46,15 @@ pub fn gather<S: Store, L: Ledger>(
     match visit(alloc, store, cid, left, visits, touches)? {
         Unixfs::File(meta, bytes, links) => Ok(Gathered::File(meta, bytes, links)),
         Unixfs::Directory(meta, links) => gather_block(alloc, cid, left - 1, meta, links),
-        Unixfs::Shard(meta, links) => gather_shards(
-            alloc,
-            store,
-            cid,
-            left - 1,
-            meta,
-            links,
-            visits,
-            touches,
-        ),
+        Unixfs::Shard(meta, links) => {
+            let first = Frame {
+                by: *cid,
+                left: left - 1,
+                links,
+                at: 0,
+            };
+            gather_shards(alloc, store, meta, first, visits, touches)
+        }
         Unixfs::OtherShard => Err(DagFault::Unsupported(*cid)),
         Unixfs::Other => Err(DagFault::Unsupported(*cid)),
     }
@@ -83,33 +81,26 @@ fn gather_block(
     Ok(Gathered::Folder(meta, met))
 }
 
-// The ways of a directory in shards, the first of which has this metadata and these links.
+// The ways of a directory in shards, the first of which has this metadata.
 fn gather_shards<S: Store, L: Ledger>(
     alloc: Global,
     store: &mut S,
-    by: &Cid,
-    left: u64,
     meta: Meta,
-    links: Links,
+    first: Frame,
     visits: &mut u32,
     touches: &mut Steps<L>,
 ) -> Result<Gathered, DagFault>
     requires good { IsTrue (is_meta meta) }
     ensures good { IfOk result IsGoodGathered }
     ensures says { SaysVisits S.X.block32 (S.seen store.old) visits.new (λ held.
-        gathered_folder_behind meta (shard_ways (sub_ways held left) by.now left links [] visits.old)) result }
+        gathered_folder_behind meta (frame_ways held first [] visits.old)) result }
     ensures reads { ReadsDag S.X.block32 (S.seen store.old) (S.seen store.new) result }
     ensures fewer { OnOk result (visits.new ≤ visits.old) }
     ensures touches { TouchesByVisit visits.old visits.new touches.old touches.new }
 {
     let mut met = MetWays::new(alloc);
     let mut frames = Pile::new(alloc);
-    frames.push(Frame {
-        by: *by,
-        left,
-        links,
-        at: 0,
-    })?;
+    frames.push(first)?;
     gather_frames(alloc, store, &mut frames, &mut met, visits, touches)?;
     Ok(Gathered::Folder(meta, met))
 }

@@ -9,13 +9,13 @@ pub returns-in_err-gather_frames-clause-says : goal.returns-in_err-gather_frames
 returns-in_err-gather_frames-clause-says g c =
     let out = err_from_is_err_and c.from_residual-in_err-gather_frames.result c.from_residual-in_err-gather_frames.ensures.1 in
     rw (out.1, out.2) (by-good g.S.X.BlockHash.block32 (g.S.Store.seen c.args.store.now).told
-    (λ held says. first-fault held c.push.new.self c.args.meta c.args.by.now c.args.left c.args.links c.new-met.result c.args.visits.now c.in_err-gather_frames.field-0.0
-    (c.in_ok-push.ensures.ok ∙ ap (λ (fs : List Frame). record { by = c.args.by.now; left = c.args.left; links = c.args.links; at = 0 } ∷ fs) c.new-frames.ensures) c.new-met.ensures says)
+    (λ held says. first-fault held c.push.new.self c.args.meta c.args.first c.new-met.result c.args.visits.now c.in_err-gather_frames.field-0.0
+    (c.in_ok-push.ensures.ok ∙ ap (λ (fs : List Frame). c.args.first ∷ fs) c.new-frames.ensures) c.new-met.ensures says)
     c.in_err-gather_frames.ensures.says)
 
 pub returns-clause-says : goal.returns-clause-says
 returns-clause-says g c =
     by-good g.S.X.BlockHash.block32 (g.S.Store.seen c.args.store.now).told
-    (λ held says. first-frame held c.push.new.self c.args.meta c.args.by.now c.args.left c.args.links c.new-met.result c.args.visits.now c.gather_frames.new.met c.gather_frames.new.visits
-    (c.in_ok-push.ensures.ok ∙ ap (λ (fs : List Frame). record { by = c.args.by.now; left = c.args.left; links = c.args.links; at = 0 } ∷ fs) c.new-frames.ensures) c.new-met.ensures says)
+    (λ held says. first-frame held c.push.new.self c.args.meta c.args.first c.new-met.result c.args.visits.now c.gather_frames.new.met c.gather_frames.new.visits
+    (c.in_ok-push.ensures.ok ∙ ap (λ (fs : List Frame). c.args.first ∷ fs) c.new-frames.ensures) c.new-met.ensures says)
     c.in_ok-gather_frames.ensures.says
