@@ -74,7 +74,7 @@ module _ (X : List ℕ → List ℕ) (N : List ℕ → ℕ) (p : Profile) where
       IsFirstAmong (With name t es) (w ∷ ways) node =
           IsFirstTooLong t w.1 node ⊎ ((refusal X N p t ≡ None) × IsFirstAmong es ways node)
 
-    -- the refusal is this one; of a file that is too long the CID of its first node is told
+    -- the refusal is this one; of a file that is too long the CID of its first node is reported
     abbrev pub IsRefusedSo : Option Refusal → (Cid → Type 0) → AdoptFault → Type 0
     IsRefusedSo why IsNode (Dag fault) = ⊥
     IsRefusedSo why IsNode (FileTooLong node) = (why ≡ Some IsTooLong) × IsNode node

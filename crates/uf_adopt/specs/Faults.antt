@@ -38,12 +38,12 @@ adopt_fault (Err (Collision first second)) = None
 adopt_fault (Err TooBig) = None
 adopt_fault (Err (Store fault)) = Some fault
 
--- no fault of the store is told as one of the DAG
+-- no fault of the store is reported as one of the DAG
 abbrev pub TellsStoreApart : {A : Type 0} → Result A AdoptFault → Type 0
 TellsStoreApart (Err (Dag (dag.Store fault))) = ⊥
 TellsStoreApart other = ⊤
 
--- where a CID denotes no tree, also for want of a block, nothing is written
+-- where a CID denotes no tree, also where a block is missing, nothing is written
 abbrev pub SavesNone : {A : Type 0} → Result A AdoptFault → Told → Told → Type 0
 SavesNone (Err (Dag fault)) before now = now ≡ before
 SavesNone (Err (Store (Missing cid))) before now = now ≡ before

@@ -9,7 +9,7 @@ use uf_tree::Name;
 /// Why what a CID names can't be adopted.
 #[derive(Drop)]
 pub enum AdoptFault {
-    /// The CID denotes no tree. A fault of the store is never told in here, but as `Store`.
+    /// The CID denotes no tree. A fault of the store is never reported in here, but as `Store`.
     Dag(DagFault),
     /// A file would have more bytes than the profile allows; the CID is that of its first node.
     FileTooLong(Cid),
@@ -17,7 +17,7 @@ pub enum AdoptFault {
     Collision(Name, Name),
     /// The Tsize of a directory would be more than 2^62.
     TooBig,
-    /// The store's own fault, also while what others wrote is read: so a block that is missing is told here.
+    /// The store's own fault, also while what others wrote is read: so a block that is missing is reported here.
     Store(StoreFault),
 }
 

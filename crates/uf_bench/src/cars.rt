@@ -13,7 +13,7 @@ const MOST: u32 = 1048576;
 // How many bytes a source gives at once.
 const STEP: usize = 1048576;
 
-// A store with a file of so many MiB, and its root.
+// A store with a file of `mib` MiB, and its root.
 fn stored<L: Ledger>(
     alloc: Global,
     mib: u64,
@@ -40,7 +40,7 @@ fn car_of<L: Ledger>(
     }
 }
 
-/// The root of a file of so many MiB, whose CAR was written so many times.
+/// The root of a file of `mib` MiB, whose CAR was written `times` times.
 pub fn exported<L: Ledger>(
     alloc: Global,
     mib: u64,
@@ -64,7 +64,7 @@ fn read_anew<L: Ledger>(alloc: Global, car: Block, touches: &mut Steps<L>) -> Op
     }
 }
 
-/// The root of a file of so many MiB, whose CAR was written, and read into a new store where that is asked for.
+/// The root of a file of `mib` MiB, whose CAR was written, and read into a new store where that is asked for.
 pub fn imported<L: Ledger>(
     alloc: Global,
     mib: u64,

@@ -15,7 +15,7 @@ fn empty_file() -> Entry {
     }
 }
 
-// The pairs of empty files under so many names, in order.
+// The pairs of empty files under n names, in order.
 fn empty_files(alloc: Global, names: u64) -> Option<Pairs> {
     let mut pairs = Pairs::new(alloc);
     for n in 0..names {
@@ -41,7 +41,7 @@ fn built<L: Ledger>(
     build::<_, Murmur3, L>(alloc, store, &Profile::usual(), pairs, &meta, touches).ok()
 }
 
-/// The root of a directory of so many names after so many edits: each even one puts a name, each odd one takes it out
+/// The root of a directory of `names` names after `edits` edits: each even one puts a name, each odd one takes it out
 /// again.
 pub fn edited<L: Ledger>(
     alloc: Global,

@@ -13,12 +13,12 @@ use uf_tree::{Entry, Profile};
 // How many zeros follow the number of a piece: with it they are a quarter of a MiB.
 const ZEROS: usize = 262136;
 
-/// So many zeros.
+/// n zeros.
 pub fn zeros(alloc: Global, count: usize) -> Option<Vec<u8>> {
     vec![in alloc; 0u8; count].ok()
 }
 
-/// The entry of a file of so many MiB, in which no two pieces are equal.
+/// The entry of a file of n MiB, in which no two pieces are equal.
 pub fn built<L: Ledger>(
     alloc: Global,
     store: &mut MemStore<Sha256Hash>,
@@ -34,7 +34,7 @@ pub fn built<L: Ledger>(
     builder.finish(store, touches).ok()
 }
 
-/// The root of a file of so many MiB after n bytes were written into it, each at another place.
+/// The root of a file of `mib` MiB after n bytes were written into it, each at another place.
 pub fn edited<L: Ledger>(
     alloc: Global,
     mib: u64,

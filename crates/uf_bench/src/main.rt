@@ -24,13 +24,13 @@ use uf_store::Steps;
 // What is measured.
 #[derive(Drop)]
 enum Task {
-    // `dir NAMES EDITS`: a name put into a directory of so many names and taken out again, in turn.
+    // `dir NAMES EDITS`: a name put into a directory of NAMES names and taken out again, in turn.
     Directory(u64, u64),
     // `dir-anew NAMES EDITS`: the same, each time by building the directory anew.
     DirectoryAnew(u64, u64),
-    // `file MIB EDITS`: single bytes written into a file of so many MiB.
+    // `file MIB EDITS`: single bytes written into a file of MIB MiB.
     File(u64, u64),
-    // `export MIB TIMES`: the CAR of a file of so many MiB written, so many times.
+    // `export MIB TIMES`: the CAR of a file of MIB MiB, written TIMES times.
     Export(u64, u64),
     // `import MIB TIMES`: such a CAR written, and read into a new store where TIMES isn't 0.
     Import(u64, u64),

@@ -33,7 +33,7 @@ build_fault (Err Spent) = None
 build_fault (Err (Store fault)) = Some fault
 
 -- what `feed` answers: Spent exactly of a builder that gave up before, FileTooLong exactly where another one would
--- have too many bytes; then it has given up, and after Ok it was fed so many more
+-- have too many bytes; then it has given up, and after Ok it was fed these too
 abbrev pub IsFeedAnswer : Building → ℕ → Building → Result (Unit {0}) BuildFault → Type 0
 IsFeedAnswer b more now (Ok done) = (b.is_spent ≡ false) × (b.fed + more ≤ most_bytes b.profile)
     × (now.is_spent ≡ false) × (now.fed ≡ b.fed + more)

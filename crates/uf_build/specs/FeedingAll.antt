@@ -40,8 +40,8 @@ pub record PassesLimit (hash : List ℕ → List ℕ) (p : Profile) (told : stor
   pub taken : left ≡ before bytes left_now
   pub many : (front : List ℕ) → IsFedBy hash p told front b → most_bytes p < length (front ++ bytes)
 
--- nothing was written but blocks of the plan of every file that begins with what was fed before and with bytes that the
--- source had in front
+-- nothing was written but blocks of the plan of every file that begins with what was fed before and with the first
+-- bytes of the source
 pub record SavesBehind (hash : List ℕ → List ℕ) (p : Profile) (told told_now : store.Told) (b : Building) (left : Told)
     : Type 0 where
   pub bytes : List ℕ

@@ -11,7 +11,7 @@ use Rattle.uf_build.specs.declared.layout.Layout.{Layout}
 use Rattle.uf_build.specs.Building.{Adds, Any, Builds, Ends, Feeds, IsHeld, SavesForBytes, SavesUpTo}
 use Rattle.uf_build.specs.Rows.{AreOpen, add_held, add_row, groups_in, saved_all, sizes_of}
 
--- it has an accepted profile, room in its piece and in its groups, and with so many more bytes not too many
+-- it has an accepted profile, room in its piece and in its groups, and with n more bytes it has not too many
 pub record CanTake (more : ℕ) (l : Layout) : Type 0 where
   pub profile : IsTrue (is_profile l.profile)
   pub room : length l.begun.items < l.profile.chunk
@@ -39,7 +39,7 @@ pub record TakesPieces (X : List ℕ → List ℕ) (bytes : List ℕ) (before no
   pub takes : Takes X bytes before now told told_now touches touches_now
   pub begun : now.begun.items ≡ before.begun.items
 
--- it took n bytes of the front: either that was all, or no piece is begun now
+-- it took the first n bytes: either that was all, or no piece is begun now
 pub record TakesFront (X : List ℕ → List ℕ) (bytes : List ℕ) (front : ℕ) (before now : Layout) (told told_now : Told)
     (touches touches_now : ℕ) : Type 0 where
   pub takes : Takes X (take front bytes) before now told told_now touches touches_now

@@ -171,7 +171,7 @@ impl Layout {
         Ok(())
     }
 
-    // Saves so many whole pieces, of which some are hashed side by side.
+    // Saves n whole pieces, of which some are hashed side by side.
     fn save_pieces<S: Store, L: Ledger>(
         &mut self,
         store: &mut S,
@@ -201,7 +201,7 @@ impl Layout {
         Ok(())
     }
 
-    // Saves so many whole pieces, which are hashed side by side.
+    // Saves n whole pieces, which are hashed side by side.
     fn save_group<S: Store, L: Ledger>(
         &mut self,
         store: &mut S,

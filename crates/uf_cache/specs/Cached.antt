@@ -64,6 +64,6 @@ module _ {S X : Type 0} {G : Ghosts S X} {H : HashGhosts X} where
     pub below : Answers (inner_seen before) (inner_seen now)
     pub same_entries : now.entries ≡ before.entries
 
--- so many blocks were found
+-- n blocks were found
 abbrev pub with_finds : ℕ → Seen → Seen
 with_finds n seen = record seen { finds = n }

@@ -94,7 +94,7 @@ fn call_over<X: BlockHash, L: Ledger>(
     )
 }
 
-// Makes a call over a cache, and tells what comes of it.
+// Makes a call over a cache, and reports what comes of it.
 fn call_cached<X: BlockHash, L: Ledger>(
     alloc: Global,
     store: &mut Cached<MemStore<X>>,

@@ -47,7 +47,7 @@ fn fill_buffer(alloc: Global, bytes: &[u8], rest: &str, told: &mut Block) -> Res
     say_filled(alloc, filled, &buffer, told)
 }
 
-// Writes bytes twice into a sink with so much room: `write-twice ROOM CALL`.
+// Writes bytes twice into a sink with ROOM bytes of room: `write-twice ROOM CALL`.
 fn write_twice(alloc: Global, bytes: &[u8], rest: &str, told: &mut Block) -> Result<(), Memory> {
     let (room, rest) = number_and_rest(rest);
     let fails = calls(alloc, failing(number_of(rest)))?;

@@ -91,8 +91,8 @@ fn say_again(told: &mut Block, again: Result<bool, StrictFault>) -> Result<(), M
     }
 }
 
-// Whether a block with this byte changed is read as one that is written so, or as none, and leniently without a want
-// of memory.
+// Whether a block with this byte changed is read as one that is written so, or as none, and leniently without running
+// out of memory.
 fn is_sound(alloc: Global, bytes: &[u8]) -> bool {
     let is_strict = matches!(
         node_again(alloc, bytes),
@@ -221,7 +221,7 @@ fn write_good_head(
     tell_bytes(told, alloc, b"> ", text.as_slice())
 }
 
-// Whether so many pieces that are hashed as one group have the digests of each by itself.
+// Whether n pieces that are hashed as one group have the digests of each by itself.
 fn agree(bytes: &[u8], size: usize, out: &mut [[u8; 32]]) -> bool
     requires { length bytes.now ≡ length out.old * size }
 {

@@ -168,7 +168,7 @@ fn walk_two(
     follow(alloc, &mut walk, told)
 }
 
-/// A walk of at most so many CIDs from one root or two: `walk MOST ROOT ROOT`.
+/// A walk of at most MOST CIDs from one root or two: `walk MOST ROOT ROOT`.
 pub fn walk(alloc: Global, rest: &str, told: &mut Block) -> Result<(), Memory> {
     let (most, roots) = number_and_rest(rest);
     let most = small(most);

@@ -71,7 +71,7 @@ fn say_export(
     }
 }
 
-// Writes the CAR below a CID of at most so many CIDs, into so much room: `export MOST ROOM CID`.
+// Writes the CAR below a CID of at most MOST CIDs, into ROOM bytes of room: `export MOST ROOM CID`.
 fn write_car<X: BlockHash, L: Ledger>(
     alloc: Global,
     store: &mut MemStore<X>,
@@ -219,7 +219,7 @@ fn say_same_fault(alloc: Global, fault: &SameFault, told: &mut Block) -> Result<
     }
 }
 
-/// Compares two stores below two CIDs, of at most so many CIDs: `same MOST CODEC BYTES and CODEC BYTES`.
+/// Compares two stores below two CIDs, of at most MOST CIDs: `same MOST CODEC BYTES and CODEC BYTES`.
 pub fn compare<X: BlockHash, L: Ledger>(
     alloc: Global,
     stores: (&mut MemStore<X>, &mut MemStore<X>),

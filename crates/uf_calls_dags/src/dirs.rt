@@ -108,7 +108,7 @@ fn add_number(alloc: Global, pairs: &mut Pairs, number: u64) -> Result<(), Memor
     }
 }
 
-// So many empty files, named by `f` and five digits.
+// n empty files, named by `f` and five digits.
 fn numbered(alloc: Global, count: u64) -> Result<Pairs, Memory> {
     let mut pairs = Pairs::new(alloc);
     for number in 0..count {
@@ -158,7 +158,7 @@ fn are_found<X: BlockHash, L: Ledger>(
     count
 }
 
-// How many of so many numbered files are found below a root: `find-files COUNT CID`.
+// How many of COUNT numbered files are found below a root: `find-files COUNT CID`.
 fn find_numbered<X: BlockHash, L: Ledger>(
     alloc: Global,
     store: &mut MemStore<X>,

@@ -47,7 +47,7 @@ fn say_intake_fault(alloc: Global, fault: &IntakeFault, told: &mut Block) -> Res
     }
 }
 
-// The entry of some bytes that are fed in pieces of so many.
+// The entry of some bytes that are fed in pieces of n bytes.
 fn fed<X: BlockHash, L: Ledger>(
     mut builder: Builder,
     store: &mut MemStore<X>,

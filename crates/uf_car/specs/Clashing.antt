@@ -25,7 +25,7 @@ or_other None b rest = rest
 or_other (Some other) b rest =
     if pointwise nat_eq other b.1 then rest else Some (record { cid = b.0; first = other; second = b.1 })
 
--- the first of these sections under whose CID another block is held, be it since an earlier one was saved
+-- the first of these sections under whose CID another block is held, even if only since an earlier one was saved
 unfoldable pub first_clash : Contents → List Held → Option TwoBlocks
 first_clash t [] = None
 first_clash t (b ∷ sections) = or_other (held_at t b.0) b (first_clash (with_save b.0 b.1 t) sections)

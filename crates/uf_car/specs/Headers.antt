@@ -15,7 +15,7 @@ use Rattle.uf_car.specs.declared.fault.CarFault.{CarFault}
 use Rattle.uf_car.specs.declared.fault.CarFault.TheVariants as fault
 use Rattle.uf_car.specs.Text.{roots_key, version_key, link_key}
 
--- the bytes after a front, where they begin with it
+-- the bytes after a prefix, where they start with it
 abbrev pub past_front : List ℕ → List ℕ → Option (List ℕ)
 past_front front bytes = if starts_with nat_eq bytes front then Some (drop (length front) bytes) else None
 
@@ -43,7 +43,7 @@ count_of (b ∷ rest) =
 abbrev pub few_roots : ℕ × List ℕ → Result (ℕ × List ℕ) CarFault
 few_roots c = if nat_lt 64 c.0 then Err (fault.TooManyRoots c.0) else Ok (c.0, c.1)
 
--- the CID of n bytes in front
+-- the CID at the start, of n bytes
 abbrev pub root_with : ℕ → List ℕ → Result (Cid × ℕ) CidFault → Result (Cid × List ℕ) CarFault
 root_with size bytes (Ok found) = if found.1 == size then Ok (found.0, drop size bytes) else Err fault.Header
 root_with size bytes (Err why) = Err fault.Header
@@ -60,7 +60,7 @@ new_root bytes (Some rest) = root_with 36 rest (cid_at rest)
 unfoldable pub root_of : List ℕ → Result (Cid × List ℕ) CarFault
 root_of bytes = new_root bytes (past_front link_key bytes)
 
--- so many roots more
+-- n roots more
 unfoldable pub roots_from : List Cid → ℕ → List ℕ → Result (List Cid × List ℕ) CarFault
 roots_from roots zero bytes = Ok (roots, bytes)
 roots_from roots (suc n) bytes = root_of bytes >>= λ r. roots_from (roots ++ r.0 ∷ []) n r.1

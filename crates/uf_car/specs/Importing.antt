@@ -153,7 +153,7 @@ pub record IsAtLast (hash : List ℕ → List ℕ) (place : ℕ) (a : Ahead) (no
   pub same : now ≡ Some a
   pub same_told : told_now ≡ told
 
--- the clash is of the section in front, with a block that is held
+-- the clash is of the first section, with a block that is held
 abbrev pub ClashesInFront : Section → Told → StoreFault → Type 0
 ClashesInFront front told =
     IfClash (λ c first second. (used : ℕ) × (front ≡ Has (c, second) used) × HoldsOne told c first)
@@ -182,7 +182,7 @@ abbrev pub ClashesFirst : List Held → Told → StoreFault → Type 0
 ClashesFirst sections told =
     IfClash (λ c first second. (rest : List Held) × (sections ≡ (c, second) ∷ rest) × HoldsOne told c first)
 
--- so many of these blocks were kept: all where the answer is one of the CAR, and else those before a clash
+-- a prefix of these blocks was kept: all where the answer is one of the CAR, and else those before a clash
 pub record KeepsSome (sections : List Held) (f : CarFault) (told told_now : Told) : Type 0 where
   pub count : ℕ
   pub few : count ≤ length sections

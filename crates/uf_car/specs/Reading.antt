@@ -70,7 +70,7 @@ with_opening hash place bytes (Found c front size) =
       | false ↦ checked hash place c (take size (drop front bytes)) (front + size)
     ]
 
--- the section in front
+-- the section at the start
 abbrev pub section_of : (List ℕ → List ℕ) → ℕ → List ℕ → Section
 section_of hash place bytes = with_opening hash place bytes (opening_of place bytes)
 
@@ -86,7 +86,7 @@ abbrev pub ended_over : {A : Type 0} → Bool → Result A CarFault → Result A
 ended_over true answer = Err fault.TooLong
 ended_over false answer = answer
 
--- one section more in front
+-- one section more, before the others
 abbrev pub and_section : {A : Type 0} → Held → Read A → Read A
 and_section b r = record { sections = b ∷ r.sections; answer = r.answer }
 
@@ -97,7 +97,7 @@ read_on next over place bytes EndsInside =
 read_on next over place bytes (IsWrong f) = record { sections = []; answer = Err f }
 read_on next over place bytes (Has b used) = and_section b (next (place + used) (drop used bytes))
 
--- at most so many sections
+-- at most n sections
 unfoldable pub sections_within : (List ℕ → List ℕ) → Bool → ℕ → ℕ → List ℕ → Read Unit
 sections_within hash over zero place bytes = record { sections = []; answer = ended_over over (Ok tt) }
 sections_within hash over (suc n) place bytes =
@@ -107,7 +107,7 @@ sections_within hash over (suc n) place bytes =
 abbrev pub sections_of : (List ℕ → List ℕ) → Bool → ℕ → List ℕ → Read Unit
 sections_of hash over place bytes = sections_within hash over (length bytes) place bytes
 
--- the header in front: its roots, and how many bytes it has
+-- the header at the start: its roots, and how many bytes it has
 abbrev pub sized_roots : ℕ → Result (List Cid) CarFault → Result (List Cid × ℕ) CarFault
 sized_roots size (Ok roots) = Ok (roots, size)
 sized_roots size (Err f) = Err f

@@ -1,4 +1,4 @@
--- The text of a CAR (CARv1): the header with its roots, and a section for each block. Each has its length in front.
+-- The text of a CAR (CARv1): the header with its roots, and a section for each block. Each has its length before it.
 use Rattle.std.specs.Prelude.{ℕ, List, [], ◌∷◌, ◌++◌, length, codes}
 use Rattle.std.specs.List.{flat_map}
 use Rattle.std.specs.declared.option.Option.{Option}
@@ -8,7 +8,7 @@ use Rattle.uf_cid.specs.Blocks.{Held, Lookup}
 use Rattle.uf_cid.specs.Cid.{cid_bytes}
 use Rattle.uf_cid.specs.declared.cid.Cid.{Cid}
 
--- bytes with their number in front
+-- bytes with their number before them
 abbrev pub framed : List ℕ → List ℕ
 framed bytes = varint (length bytes) ++ bytes
 

@@ -34,7 +34,7 @@ pub fn export<S: Store, O: Sink, L: Ledger>(
     touches: &mut Steps<L>,
 ) -> Result<u64, ExportFault>
     // Over a store that tells: the text of the order, or its first fault and nothing written; a failure leaves a
-    // front.
+    // prefix.
     ensures text { (t : Contents) → (S.seen store.old).told ≡ Some t
         → Exports (held_at t) most root.now result (O.holds out.old) (O.holds out.new) }
     ensures some { WritesSome (O.holds out.old) (O.holds out.new) }
@@ -90,7 +90,7 @@ fn take_block<S: Store, L: Ledger>(
     Ok(())
 }
 
-// Writes the header and the blocks that a walk has handed out, at most so many.
+// Writes the header and the blocks that a walk has handed out, at most n.
 fn write_car<S: Store, O: Sink, L: Ledger>(
     store: &mut S,
     root: &Cid,

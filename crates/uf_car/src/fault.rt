@@ -25,7 +25,7 @@ pub enum CarFault {
     WrongDigest(u64, Cid),
     /// A block has n bytes.
     TooBigBlock(u64, u64),
-    /// There are so many roots.
+    /// There are more than 64 roots: this many.
     TooManyRoots(u64),
     /// A length isn't the shortest varint of a number below 2^63.
     BadLength(u64),

@@ -85,7 +85,7 @@ fn few(count: u8, rest: &[u8]) -> Result<(usize, &[u8]), CarFault>
     }
 }
 
-// So many roots.
+// n roots.
 fn roots_behind(alloc: Global, count: usize, bytes: &[u8]) -> Result<(Cids, &[u8]), CarFault>
     ensures says { HeaderSaysOrMemory (λ x. (x.0, x.1.now)) result (roots_from [] count bytes.now) }
     ensures of_bytes { IfErr result IsOfBytes }
@@ -117,7 +117,7 @@ fn root_in(bytes: &[u8]) -> Result<(Cid, &[u8]), CarFault>
     }
 }
 
-// The CID of n bytes in front.
+// The CID at the start, of n bytes.
 fn cid_of_length(size: usize, bytes: &[u8]) -> Result<(Cid, &[u8]), CarFault>
     ensures says { HeaderSays (λ x. (x.0, x.1.now)) result (root_with size bytes.now (cid_at bytes.now)) }
     ensures of_bytes { IfErr result IsOfBytes }
@@ -156,7 +156,7 @@ fn version_behind(roots: Cids, bytes: &[u8]) -> Result<Cids, CarFault>
     }
 }
 
-// The bytes after a front, where they begin with it.
+// The bytes after a prefix, where they start with it.
 fn rest_behind<'a>(front: &[u8], bytes: &'a [u8]) -> Option<&'a [u8]>
     ensures { option_map (λ x. x.now) result ≡ past_front front.now bytes.now }
 {

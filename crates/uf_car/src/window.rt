@@ -48,7 +48,7 @@ impl Window {
     ghost use Rattle.uf_car.specs.Windows.{is_over_at, window_bytes};
     ghost use Rattle.uf_car.specs.declared.window.Supply.TheVariants as supply;
 
-    // No bytes yet, of at most so many.
+    // No bytes yet, of at most `limit`.
     pub fn new(alloc: Global, limit: u64) -> Result<Window, Memory>
         ensures bytes { IfOk result (λ w. window_bytes w ≡ []) }
         ensures room { IfOk result (λ w. w.room ≡ limit) }

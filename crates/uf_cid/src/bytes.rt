@@ -63,7 +63,7 @@ impl Block {
         }
     }
 
-    /// No bytes, with memory for so many taken at once.
+    /// No bytes, with memory for `capacity` bytes taken at once.
     pub fn with_capacity(alloc: Global, capacity: usize) -> Result<Self, Memory>
         ensures { IfOk result (λ b. b ≡ []) }
     {
@@ -107,7 +107,7 @@ impl Block {
     }
 }
 
-/// So many zeros, to be read or written over.
+/// n zeros, to be read or written over.
 pub fn zeros(alloc: Global, count: usize) -> Result<Vec<u8>, Memory>
     ensures { IfOk result (λ v. vec_len v ≡ count) }
 {

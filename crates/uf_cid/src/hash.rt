@@ -34,7 +34,7 @@ pub trait BlockHash {
     ghost are_bytes: { (block : List ℕ) → IsBytes (block32 block) };
 }
 
-/// The digests of so many pieces of one size, one after another in a buffer.
+/// The digests of n pieces of one size, one after another in a buffer.
 pub fn digests_of<X: BlockHash>(bytes: &[u8], size: usize, count: usize) -> [[u8; 32]; 8]
     requires count { length bytes.now ≡ count * size }
     requires few { count ≤ 8 }

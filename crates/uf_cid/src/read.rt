@@ -133,7 +133,7 @@ fn front_bytes(first: u8, letters: &[u8]) -> Option<FirstBytes>
     }
 }
 
-// Whether so many bits, and this number, fill up the last letter alone.
+// Whether n bits, and this number, fill up the last letter alone.
 fn is_padding(held: u32, bits: u16) -> bool
     ensures { result ≡ (nat_lt held 5 && (bits == 0)) }
 {

@@ -20,7 +20,7 @@ use Rattle.uf_command.specs.declared.types.DagRule.TheVariants as rule
 use Rattle.uf_command.specs.declared.types.Refusal.{Refusal}
 use Rattle.uf_command.specs.declared.types.Refusal.TheVariants as refusal
 
--- a CAR is written of at most so many blocks
+-- the greatest number of blocks of which a CAR is written
 abbrev pub most_blocks : ℕ
 most_blocks = 16777216
 

@@ -34,7 +34,7 @@ shown_path path = codes "/ipfs/" ++ cid_text path.cid ++ flat_map (λ name. 47 �
 abbrev pub adopted_name : DagPath → List ℕ
 adopted_name path = elim (name_of path.names) [ None ↦ cid_text path.cid | Some name ↦ name ]
 
--- so many names of a path
+-- the first n names of a path
 abbrev pub front_of : ℕ → DagPath → DagPath
 front_of count path = record { cid = path.cid; names = take count path.names }
 

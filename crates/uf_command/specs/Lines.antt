@@ -32,7 +32,7 @@ use Rattle.uf_command.specs.declared.types.Refusal.TheVariants as refusal
 use Rattle.uf_command.specs.Dags.{dag_words}
 use Rattle.uf_command.specs.Statuses.{plain_line}
 
--- a line: what is in front, what is after it, and a line feed
+-- a line: what comes first, what comes after it, and a line feed
 abbrev pub line : List ℕ → List ℕ → List ℕ
 line front rest = front ++ rest ++ 10 ∷ []
 
@@ -179,7 +179,7 @@ abbrev pub type_word : Bool → List ℕ
 type_word true = codes "directory"
 type_word false = codes "file"
 
--- digits with zeros before them, so many at least
+-- digits with zeros before them, at least n in all
 abbrev pub at_least : ℕ → List ℕ → List ℕ
 at_least count numeral = replicate (count - length numeral) 48 ++ numeral
 

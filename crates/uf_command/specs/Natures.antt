@@ -241,9 +241,9 @@ may_give command status.Clash = may_end command OfClash || may_end command OfOwn
 may_give command status.Memory = may_end command OfMemory
 may_give command status.NotReady = may_end command OfReady || may_end command OfPins
 
--- ---- how it is told that it ended
+-- ---- how it is reported that it ended
 
--- a clash is told as out of memory
+-- a clash is reported as out of memory
 abbrev pub calm_fault : StoreFault → StoreFault
 calm_fault (fault.Clash cid first second) = fault.Memory
 calm_fault other = other

@@ -1,4 +1,4 @@
--- How talks with peers end, and how that is told: `pull` and `serve` (this project's own).
+-- How talks with peers end, and how that is reported: `pull` and `serve` (this project's own).
 use Rattle.std.specs.Prelude.{◌≡◌, ◌⊎◌, ℕ, List, [], ◌++◌, codes}
 use Rattle.std.specs.Fmt.{decimal}
 use Rattle.std.specs.declared.result.Result.{Result}
@@ -20,7 +20,7 @@ use Rattle.uf_command.specs.declared.types.PeerRule.{PeerRule}
 use Rattle.uf_command.specs.declared.types.PeerRule.TheVariants as peer
 use Rattle.uf_command.specs.declared.types.Refusal.TheVariants as refusal
 
--- a DAG is pulled up to so many CIDs
+-- the greatest number of CIDs of a DAG that is pulled
 abbrev pub most_pulled : ℕ
 most_pulled = 16777216
 

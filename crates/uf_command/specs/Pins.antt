@@ -28,7 +28,7 @@ use Rattle.uf_command.specs.declared.types.PinAsk.TheVariants as pins
 use Rattle.uf_command.specs.declared.types.Refusal.{Refusal}
 use Rattle.uf_command.specs.declared.types.Refusal.TheVariants as refusal
 
--- so many other CIDs may be pinned less one
+-- a CID is pinned beside fewer others than this
 abbrev pub most_pins : ℕ
 most_pins = 65536
 
@@ -49,7 +49,7 @@ cid_line cid = line (cid_text cid) []
 abbrev pub removed_line : ℕ → List ℕ
 removed_line count = line (codes "removed ") (decimal count)
 
--- a CID is pinned beside these where all below it is there, unless so many others are pinned
+-- a CID is pinned beside these where all below it is there, unless as many others are pinned as may be
 abbrev pub pinning : Cid → List Cid → Result (List Cid) OrderFault → Result (List ℕ) Refusal
 pinning cid listed (Ok below) = if nat_le most_pins (others cid listed) then Err (refusal.Dag rule.TooManyPins) else Ok []
 pinning cid listed (Err why) = Err (order_refusal why)

@@ -95,7 +95,7 @@ ended (Err why) = status_of why
 abbrev pub no_memory : Refusal
 no_memory = refusal.Store fault.Memory
 
--- the fault of a store of a command's own, which holds what it was given and doesn't fail: what is no clash is want of
+-- the fault of a store of a command's own, which holds what it was given and doesn't fail: what is no clash is out of
 -- memory
 abbrev pub own_refusal : StoreFault → Refusal
 own_refusal fault.Failed = no_memory

@@ -110,7 +110,7 @@ fn mtime(nanos: u64, seconds: u64) -> Mtime
     }
 }
 
-// `add` of the input, or of what the host has at a path, be it to where a path of the tree leads.
+// `add` of the input, or of what the host has at a path, also to where a path of the tree leads.
 fn read_add(
     alloc: Global,
     recursive: bool,

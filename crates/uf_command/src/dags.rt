@@ -79,7 +79,7 @@ fn text_name(alloc: Global, cid: &Cid) -> Result<Name, Memory>
     }
 }
 
-// So many names of a path.
+// The first n names of a path.
 fn front(alloc: Global, path: &DagPath, count: usize) -> Result<DagPath, Memory>
     ensures { IfOk result (λ front. front ≡ front_of count path.now) }
 {

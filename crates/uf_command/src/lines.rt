@@ -283,7 +283,7 @@ fn twice_detailed(alloc: Global, name: &[u8], first: &str, second: &str) -> Resu
     Ok(out)
 }
 
-// A line: what is in front, what is after it, and a line feed.
+// A line: what comes first, what comes after it, and a line feed.
 pub fn wrapped(alloc: Global, front: &[u8], rest: &[u8]) -> Result<Block, Memory>
     ensures { IfOk result (λ b. b ≡ line_text front.now rest.now) }
 {

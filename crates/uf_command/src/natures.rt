@@ -49,8 +49,8 @@ impl Command {
         }
     }
 
-    /// How the command ended, as it is told. One that writes nothing to the store saves no block, and a load meets no
-    /// clash: were a store to answer one, it is told as out of memory.
+    /// How the command ended, as it is reported. One that writes nothing to the store saves no block, and a load meets
+    /// no clash: were a store to answer one, it is reported as out of memory.
     pub fn settle(&self, done: Result<(), Refusal>) -> Result<(), Refusal>
         ensures { result ≡ settled (only_reads self.now) done }
     {

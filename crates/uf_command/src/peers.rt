@@ -1,4 +1,4 @@
-//! How talks with peers end, and how that is told.
+//! How talks with peers end, and how that is reported.
 ghost use Rattle.std.specs.Prelude.{◌≡◌, ◌++◌, IfOk};
 ghost use Rattle.std.specs.Fmt.{decimal};
 ghost use Rattle.uf_command.specs.Peers.{TellsTalk, peer_words as words_of_peer, pull_end as end_of_pull};

@@ -1,4 +1,4 @@
-//! What a command prints, and how its end is told.
+//! What a command prints, and how its end is reported.
 ghost use Rattle.std.specs.Prelude.{◌≡◌};
 ghost use Rattle.uf_command.specs.Telling.{IsSent, Prints, TellsEnd, TellsWhy, has_details};
 

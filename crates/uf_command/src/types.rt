@@ -150,7 +150,7 @@ pub enum DagRule {
     TooDeep(Cid),
     /// `TooMany`: there are too many blocks.
     TooMany,
-    /// `TooManyPins`: so many CIDs are pinned that no more may be.
+    /// `TooManyPins`: as many CIDs are pinned as may be.
     TooManyPins,
     /// `NotPinned`: the CID isn't pinned.
     NotPinned(Cid),

@@ -95,7 +95,7 @@ fn is_content(content: &Option<Block>, bytes: &[u8]) -> bool
     }
 }
 
-// The bytes after the links, where they stand in front.
+// The bytes after the links, where they come first.
 fn behind_links<'a>(links: &[Link], bytes: &'a [u8]) -> Option<&'a [u8]>
     ensures valid { MatchOption result (Unit {0}) (λ rest. AreLinks links.now) }
     ensures front { IsFront (links_bytes links.now) bytes.now result }
@@ -110,7 +110,7 @@ fn behind_links<'a>(links: &[Link], bytes: &'a [u8]) -> Option<&'a [u8]>
     Some(rest)
 }
 
-// The bytes after a link with its key and its length, where these stand in front.
+// The bytes after a link with its key and its length, where these come first.
 fn behind_link<'a>(link: &Link, bytes: &'a [u8]) -> Option<&'a [u8]>
     ensures valid { IsLink link.now }
     ensures front { IsFront (content_field 0x12 (link_bytes link.now)) bytes.now result }
@@ -144,7 +144,7 @@ fn behind_names<'a>(link: &Link, bytes: &'a [u8]) -> Option<&'a [u8]>
     }
 }
 
-// The bytes after a field with bytes, where it stands in front.
+// The bytes after a field with bytes, where it comes first.
 fn behind_field<'a>(key: u8, content: &[u8], bytes: &'a [u8]) -> Option<&'a [u8]>
     ensures { IsFront (content_field key content.now) bytes.now result }
 {
@@ -157,7 +157,7 @@ fn behind_field<'a>(key: u8, content: &[u8], bytes: &'a [u8]) -> Option<&'a [u8]
     }
 }
 
-// The bytes after a front, where it stands there.
+// The bytes after a prefix, where it stands there.
 fn behind<'a>(front: &[u8], bytes: &'a [u8]) -> Option<&'a [u8]>
     ensures { IsFront front.now bytes.now result }
 {

@@ -33,7 +33,7 @@ weighing_from X N p name l = elim (find names_cmp name l) [
   | Some old ↦ if is_sharded p l then weighing p (shard_count X N l) else 0
 ]
 
--- reading so many shards and saving one block, where a directory has become light
+-- reading n shards and saving one block, where a directory has become light
 abbrev pub gathering : Profile → ℕ → List Named → ℕ
 gathering p count l = if is_sharded p l then 0 else count + 1
 

@@ -126,7 +126,7 @@ pub record IsFrontPart (X : List ℕ → List ℕ) (p : Profile) (top k : ℕ) (
   pub among : (b : Held) → IsIn b (blocks_over X p.chunk p.width k front)
       → IsIn b (blocks_over X p.chunk p.width top bytes)
 
--- how many bytes a file of so many has after an edit: as many as are wanted, or else no fewer than a piece needs
+-- how many bytes a file of this length has after an edit: as many as are wanted, or else no fewer than a piece needs
 abbrev pub size_after : ℕ → Option ℕ → ℕ → ℕ → ℕ
 size_after old None offset more = max old (offset + more)
 size_after old (Some size) offset more = size

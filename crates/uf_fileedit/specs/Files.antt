@@ -95,8 +95,8 @@ module _ (X : List ℕ → List ℕ) (p : Profile) (entry : Entry) where
       Agrees before.told (file_plan X p m b).blocks → Holds before.told (file_plan X p m b).blocks
       → OnOk answer (Holds now.told (file_plan X p m (change b)).blocks))
 
-  -- over a store that agrees with the file's blocks the touches are those of an edit of so many chunks of a file that
-  -- has this size afterwards
+  -- over a store that agrees with the file's blocks the touches are those of an edit of n chunks of a file that has
+  -- this size afterwards
   abbrev pub CostsEdited : Seen → (List ℕ → ℕ) → (List ℕ → ℕ) → ℕ → ℕ → Type 0
   CostsEdited seen size chunks before now =
       (m : Meta) (b : List ℕ) (rows after : ℕ) → IsFile X p m b entry.cid rows
@@ -200,8 +200,8 @@ module _ (X : List ℕ → List ℕ) (p : Profile) (meta : Meta) where
   HoldsNewFile bytes before now answer = StaysAgreed before.told now.told []
       → OnOk answer (Holds now.told (file_plan X p meta bytes).blocks)
 
-  -- over a store that tells, after Ok the entry is that of the file of so many zeros with this piece laid over them,
-  -- and its blocks are held; over a calm one a fault is out of memory
+  -- over a store that tells, after Ok the entry is that of the file of n zeros with this piece laid over them, and its
+  -- blocks are held; over a calm one a fault is out of memory
   abbrev pub GivesNewFile : PartEdit → List ℕ → Seen → Seen → Result Entry StoreFault → Type 0
   GivesNewFile target piece before now answer = (Agrees before.told [] → Agrees now.told []
       → IfOk answer (λ e. GivesFile X p meta now.told [] e (overlaid target.size [] target.offset piece)))
@@ -218,7 +218,7 @@ abbrev pub RefusesLongWrite : Profile → ℕ → List ℕ → Result Entry Buil
 RefusesLongWrite p offset piece answer =
     RefusesTooLong (nat_lt 0 (length piece) && nat_lt (most_bytes p) (offset + length piece)) answer
 
--- what is made of no old part within so many chunks: two touches for each chunk and row, and three
+-- what is made of no old part within n chunks: two touches for each chunk and row, and three
 abbrev pub CostsNewFile : Profile → PartEdit → List ℕ → ℕ → ℕ → Type 0
 CostsNewFile p target piece before now =
     (after a z : ℕ) → IsHeight p.chunk p.width target.size after

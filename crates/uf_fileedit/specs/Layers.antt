@@ -124,8 +124,8 @@ module _ (X : List ℕ → List ℕ) (old : Option Part) where
   OfOldPiece before now P = (p : Profile) (b : List ℕ) → IsOld X p 0 old b → Agrees before.told (old_blocks X p 0 old b)
       → Agrees now.told (old_blocks X p 0 old b) → P p b
 
-  -- the part is that of its bytes cut or filled to so many, with these laid over them; and over a calm store a fault is
-  -- that its block is lost, or out of memory
+  -- the part is that of its bytes cut or filled to n, with these laid over them; and over a calm store a fault is that
+  -- its block is lost, or out of memory
   abbrev pub RemakesPiece : ℕ → ℕ → List ℕ → Seen → Seen → Result Part StoreFault → Type 0
   RemakesPiece size offset piece before now answer = OfOldPiece before now (λ p b.
       IfOk answer (λ m. GivesPart X p now.told (old_blocks X p 0 old b) 0 m (overlaid size b offset piece)))

@@ -62,7 +62,7 @@ pub record AreHeights (p : Profile) (old size : ℕ) (at : Heights) : Type 0 whe
   pub height_is : at.height ≡ after - 1
   pub first_is : at.first ≡ min old (span p.chunk p.width (at.height + 1))
 
--- the parts, of this height, of a node of n bytes below the root of a file of so many rows: at most 22 nodes are
+-- the parts, of this height, of a node of n bytes below the root of a file of this many rows: at most 22 nodes are
 -- above the parts, and the node carries no metadata
 pub record IsPlannedNode (p : Profile) (rows k size : ℕ) (parts : NodeParts) : Type 0 where
   pub valid : AreParts parts

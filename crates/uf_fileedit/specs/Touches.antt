@@ -26,7 +26,7 @@ written_chunks c old offset more = if more == 0 then 0 else chunks_met c (min of
 abbrev pub cut_chunks : ℕ → ℕ → ℕ → ℕ
 cut_chunks c old size = if old == size then 0 else chunks_met c (min old size - 1) (max size 1)
 
--- how often an edit touches the store at most, that changes so many chunks of a file with so many rows of nodes
+-- how often an edit of n chunks of a file touches the store at most, by its rows of nodes
 abbrev pub edit_touches : ℕ → ℕ → ℕ
 edit_touches chunks rows = 2 * (chunks + 2) * (rows + 2)
 

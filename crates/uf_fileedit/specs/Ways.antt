@@ -14,15 +14,15 @@ use Rattle.uf_tree.specs.Roles.{IsSpanned}
 use Rattle.uf_fileedit.specs.Bad.{IsBadEdited, IsWay, SaysWhole, way_end, way_size}
 use Rattle.uf_fileedit.specs.Planned.{bytes_over, is_of_height}
 
--- a node of this height and size, below so many nodes, has its place in a file of n bytes and rows of nodes
+-- a node of this height and size, below this many nodes, has its place in a file of n bytes and rows of nodes
 pub record HasPlaceBelow (p : Profile) (whole rows k size above : ℕ) : Type 0 where
   pub high : IsHeight p.chunk p.width whole rows
   pub count : above + k ≡ rows
   pub below : 1 ≤ above
   pub spanned : IsSpanned p k whole size
 
--- a way of canonical nodes leads from the root of a file, which has so many rows of nodes, to a part of this height: to
--- a node below the root, or to a leaf
+-- a way of canonical nodes leads from the root of a file, which has n rows of nodes, to a part of this height: to a
+-- node below the root, or to a leaf
 pub record Stands (hash : List ℕ → List ℕ) (p : Profile) (told : Told) (root : Cid) (rows k : ℕ) (part : Part)
     : Type 0 where
   pub whole : ℕ

@@ -142,7 +142,7 @@ fn over_block<S: Store, L: Ledger>(
     Ok(laid_over(alloc, block, size, offset, piece)?)
 }
 
-// The first bytes of a block, filled with zeros up to so many, with a piece laid over them.
+// The first bytes of a block, filled with zeros up to n bytes, with a piece laid over them.
 fn laid_over(
     alloc: Global,
     old: &[u8],
@@ -160,7 +160,7 @@ fn laid_over(
     Ok(bytes)
 }
 
-// The first bytes of a block, filled with zeros up to so many.
+// The first bytes of a block, filled with zeros up to n bytes.
 fn filled(alloc: Global, old: &[u8], size: usize) -> Result<Vec<u8>, Memory>
     ensures bytes { IfOk result (λ v. v.items ≡ cut_to old.now size) }
     ensures size { IfOk result (λ v. length v.items ≡ size) }

@@ -20,7 +20,7 @@ use uf_tree::{Meta, Part, Parts, Profile};
 // How many nodes of a file may stand one above the other.
 const MOST_ROWS: u8 = 22;
 
-// Loads the parts, each of this height, of a node of a file of so many rows of nodes. One touch.
+// Loads the parts, each of this height, of a node of a file of n rows of nodes. One touch.
 pub fn load_parts<S: Store, L: Ledger>(
     alloc: Global,
     store: &mut S,
@@ -48,7 +48,7 @@ pub fn load_parts<S: Store, L: Ledger>(
     }
 }
 
-// The parts, each of this height, of a node over n bytes, in a file of so many rows of nodes.
+// The parts, each of this height, of a node over n bytes, in a file of this many rows of nodes.
 fn read_planned(
     alloc: Global,
     bytes: &[u8],

@@ -23,7 +23,7 @@ use Rattle.uf_tree.specs.FileSub.{IsRooted, part_over, span}
 use Rattle.uf_tree.specs.Metas.{is_meta, none}
 use Rattle.uf_tree.specs.Profiles.{is_profile, most_bytes}
 
--- the bytes from a place on, at most so many
+-- the bytes from a place on, at most n bytes
 abbrev pub range_of : ℕ → ℕ → List ℕ → List ℕ
 range_of offset count bytes = take count (drop offset bytes)
 
@@ -94,7 +94,7 @@ pub record AppendsCount (n : ℕ) (held held_now : SinkTold) : Type 0 where
   pub count : length bytes ≡ n
   pub appended : held_now ≡ after held bytes
 
--- at most so many
+-- at most n bytes
 pub record AppendsAtMost (most : ℕ) (held held_now : SinkTold) : Type 0 where
   pub count : ℕ
   pub few : count ≤ most

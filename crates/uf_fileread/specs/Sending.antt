@@ -27,11 +27,11 @@ use Rattle.uf_fileread.specs.Parts.{AreParts, parts_block}
 use Rattle.uf_fileread.specs.declared.node_parts.NodeParts.{NodeParts}
 use Rattle.uf_fileread.specs.Ranges.{IsFirstLossOf}
 
--- metadata that a node may carry where so many nodes may stand: any at the root, where 22 may, and none below it
+-- metadata that a node may carry where n rows of nodes may stand: any at the root, where 22 may, and none below it
 abbrev pub CarriesHere : ℕ → Meta → Type 0
 CarriesHere rows meta = rows < 22 → meta ≡ none
 
--- parts of a node that may stand where so many nodes may, and of which this size is declared
+-- parts of a node that may stand where n rows of nodes may, and of which this size is declared
 pub record MayStand (rows : ℕ) (declared : Option ℕ) (parts : NodeParts) : Type 0 where
   pub valid : AreParts parts
   pub some : 1 ≤ rows

@@ -45,7 +45,7 @@ const NO_CID: Cid = Cid {
     digest: [0u8; 32],
 };
 
-// The bytes from an offset on, at most so many.
+// The bytes from an offset on, at most n.
 #[derive(Clone, Copy)]
 struct Reach {
     offset: u64,
@@ -290,7 +290,7 @@ fn read_node(
     }
 }
 
-// Whether a node may carry this metadata where so many nodes may stand: any at the root, where most may.
+// Whether a node may carry this metadata where n rows of nodes may stand: any at the root, where most may.
 fn may_carry(rows: u8, meta: &Meta) -> bool
     ensures { IsTrue result ↔ CarriesHere rows meta.now }
 {

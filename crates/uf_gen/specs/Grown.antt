@@ -69,17 +69,17 @@ module _ (X : List ℕ → List ℕ) (N : List ℕ → ℕ) (p : Profile) (seed 
   after_step Make i = after_make i
   after_step Change i = after_change i
 
-  -- the tree once so many files are made
+  -- the tree once i files are made
   unfoldable pub made_files : ℕ → Result Entries Rule
   made_files zero = Ok (Nothing none)
   made_files (suc i) = then_go (made_files i) (after_make i)
 
-  -- the tree once n files are made and so many are changed
+  -- the tree once n files are made and i of them are changed
   unfoldable pub changed_files : (n i : ℕ) → Result Entries Rule
   changed_files n zero = made_files n
   changed_files n (suc i) = then_go (changed_files n i) (after_change i)
 
-  -- the tree of n files once this step was done to so many of them
+  -- the tree of n files once this step was done to i of them
   abbrev pub stepped : Step → (n i : ℕ) → Result Entries Rule
   stepped Make n i = made_files i
   stepped Change n i = changed_files n i

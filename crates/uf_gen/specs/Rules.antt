@@ -7,7 +7,7 @@ use Rattle.uf_tree.specs.Laying.{laid}
 abbrev pub mixed : (seed i : ℕ) → ℕ
 mixed seed i = (40503 * (i % 65536) + 257 * (seed % 65536)) % 65536
 
--- the last decimal digits of a number, so many
+-- the last n decimal digits of a number
 unfoldable pub digits : (count i : ℕ) → List ℕ
 digits zero i = []
 digits (suc count) i = digits count (i / 10) ++ (48 + i % 10) ∷ []

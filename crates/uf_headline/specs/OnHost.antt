@@ -15,7 +15,7 @@ abbrev pub tree_of : Option Place → List (List ℕ × Tree) → Tree
 tree_of (Some (place.File bytes)) members = File none bytes
 tree_of other members = Dir (entries none members)
 
--- what a host has at a path, with what is up to so many folders below it
+-- what a host has at a path, with what is up to n folders below it
 unfoldable pub tree_below : HostTree → ℕ → List ℕ → Tree
 tree_below host zero path = tree_of (get host path) []
 tree_below host (suc levels) path =

@@ -14,8 +14,8 @@ ghost use Rattle.uf_headline.specs.Calls.{Calls};
 ghost use Rattle.uf_headline.specs.History.{History, Step};
 
 /// A batch, over a store that stands for a tree (or has no Head, or one that isn't read) and a host that tells, is a
-/// history, where nothing of the store, the output or the host failed, no clash was met, and it doesn't end for want
-/// of memory: a step for each line that has a word, that of the line which ended it too, each with no input.
+/// history, where nothing of the store, the output or the host failed, no clash was met, and it doesn't run out of
+/// memory: a step for each line that has a word, that of the line which ended it too, each with no input.
 pub fn a_batch_is_a_history()
     ensures { (X : List ℕ → List ℕ) (N : List ℕ → ℕ) (host : HostTree) (most limit : ℕ) (given : TheStatus)
         (before now : Scene) (standing : Standing) → (did : Batches X N most limit given before now)

@@ -131,7 +131,7 @@ module _ (X : List ℕ → List ℕ) (N : List ℕ → ℕ) (p : Profile) where
     pub are : IfSome host (λ tree. Reads tree read)
     pub no_other : SavesAmong X (flat_map (blocks X N p) read) before told
 
-  -- the same of what a walk over so many levels of folders has read of a path
+  -- the same of what a walk over n levels of folders has read of a path
   abbrev pub SavesReadAt : (before told : Told) → HostTold → ℕ → List ℕ → Type 0
   SavesReadAt before told host levels path = SavesRead before told host (λ tree. HasRead X N p tree levels path)
 

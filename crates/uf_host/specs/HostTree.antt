@@ -61,7 +61,7 @@ module _ (X : List ℕ → List ℕ) (N : List ℕ → ℕ) (p : Profile) where
   tree_there folder path (Some place.Folder) = folder
 
   module _ (host : edge.HostTree) where
-    -- a walk over so many levels of folders
+    -- a walk over n levels of folders
     unfoldable pub walk_down : ℕ → Walk
     walk_down zero path = tree_there (Err (TooDeep path)) path (get host path)
     walk_down (suc levels) path =

@@ -66,7 +66,7 @@ ReadsNext X p before told host path bytes b (Ok count) = TakesNext X p before to
 ReadsNext X p before told host path bytes b (Err fault) = IsSaidOr (IsLongFile p host path) fault
 
 -- some bytes of the file after those that the builder has taken were read, and nothing was written but blocks for the
--- front that ends with them
+-- prefix that ends with them
 pub record StopsNext (X : List ℕ → List ℕ) (p : Profile) (before told : Told) (host : HostTold) (path bytes : List ℕ)
     : Type 0 where
   pub piece : List ℕ

@@ -41,8 +41,8 @@ ReadsPlace OfFolder (t ∷ ts) (Some (place.File bytes)) = (t ∷ ts) ≡ (File 
 ReadsPlace OfFolder (t ∷ ts) (Some place.Folder) = OfFolder (t ∷ ts)
 
 module _ (X : List ℕ → List ℕ) (N : List ℕ → ℕ) (p : Profile) (host : HostTree) where
-  -- what a walk over so many levels of folders has read of a path where it stops, in its order: files and folders, each
-  -- as a whole
+  -- what a walk over n levels of folders has read of a path where it stops, in its order: files and folders, each as a
+  -- whole
   unfoldable pub HasRead : ℕ → List ℕ → List Tree → Type 0
   HasRead zero path read = ReadsPlace (λ read. ⊥) read (get host path)
   HasRead (suc levels) path read = ReadsPlace (λ read.

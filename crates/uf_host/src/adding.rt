@@ -25,7 +25,7 @@ use uf_murmur::NameHash;
 use uf_store::{Steps, Store};
 use uf_tree::{Entry, Profile};
 
-// The bytes of eight pieces of a file by the usual profile: so many are hashed side by side.
+// The bytes of eight pieces of a file by the usual profile: they are hashed side by side.
 const BUFFER: usize = 8 * 262144;
 
 /// Adds the file at a path, or where `recursive` says so the folder, with everything in it: saves the blocks of its

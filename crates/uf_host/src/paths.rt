@@ -6,7 +6,7 @@ ghost use Rattle.uf_host.specs.Getting.{IsNamedBy, SplitsLast};
 
 use crate::HostFault;
 
-// The path without slashes at its end, but for one that begins it.
+// The path without slashes at its end, but for one at its start.
 pub fn trim(path: &str) -> &str
     ensures { result.now ≡ trimmed path.now }
 {

@@ -19,7 +19,7 @@ use uf_murmur::NameHash;
 use uf_store::{Steps, Store, StoreFault};
 use uf_tree::{Entry, Meta, Name, NameFault, Pair, Pairs};
 
-// Adds what is at a site, and its rows; so many levels of folders may be walked.
+// Adds what is at a site, and its rows; at most n levels of folders are walked.
 #[cycle(walk)]
 pub fn add_at<S: Store, N: NameHash, W: Host, L: Ledger>(
     import: &mut Import,

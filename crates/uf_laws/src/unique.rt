@@ -9,7 +9,7 @@ ghost use Rattle.uf_tree.specs.Tree.{Tree, Entries, is_tree};
 ghost use Rattle.uf_tree.specs.TreePlan.{entry, blocks, refusal};
 ghost use Rattle.uf_tree.specs.Validity.{IsHash};
 
-/// Two trees that have plans, be it by two profiles, and whose blocks are all held in one place are one tree where
+/// Two trees that have plans, even if by two profiles, and whose blocks are all held in one place are one tree where
 /// their roots have one CID. Blocks that clash elsewhere don't matter: one CID has one block there.
 pub fn equal_roots_mean_equal_trees()
     ensures { (X : List ℕ → List ℕ) (N : List ℕ → ℕ) (p q : Profile) (held : Lookup) (t u : Tree) → IsHash X
@@ -19,8 +19,8 @@ pub fn equal_roots_mean_equal_trees()
         → (entry X N p t).cid ≡ (entry X N q u).cid → t ≡ u }
 {}
 
-/// Two trees that have plans, be it by two profiles, and whose roots have one CID are one tree, or two of their blocks
-/// are different and have one digest.
+/// Two trees that have plans, even if by two profiles, and whose roots have one CID are one tree, or two of their
+/// blocks are different and have one digest.
 pub fn equal_roots_mean_equal_trees_or_a_clash()
     ensures { (X : List ℕ → List ℕ) (N : List ℕ → ℕ) (p q : Profile) (t u : Tree) → IsHash X
         → ((name : List ℕ) → N name < 2 ^ 64) → IsTrue (is_profile p) → IsTrue (is_profile q)

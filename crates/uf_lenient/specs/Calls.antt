@@ -38,12 +38,12 @@ abbrev pub SaysVisits : {A : Type 0} → (List ℕ → List ℕ) → Seen → �
 SaysVisits hash seen visits said answer =
     ByGoodBlocks hash seen.told (λ held. FollowsReading (λ a. (a, visits)) (said held) answer)
 
--- the block that is lent is the one that is visited under a CID, where so many levels are left
+-- the block that is lent is the one that is visited under a CID, where n levels are left
 abbrev pub LendsVisited : (List ℕ → List ℕ) → ℕ → Cid → Seen → Seen → ℕ → ℕ → Result Unit DagFault → Type 0
 LendsVisited hash left cid before now visits visits_now answer = ByGoodBlocks hash before.told (λ held.
     FollowsReading (λ _. (now.lent, visits_now)) (loads held left cid visits) answer)
 
--- all that is due was read, and so many visits are left
+-- all that is due was read, and n visits are left
 abbrev pub ReadsAllDue : {A : Type 0} → (List ℕ → List ℕ) → Seen → List Due → ℕ → ℕ → Result A DagFault → Type 0
 ReadsAllDue hash seen due visits visits_now answer = ByGoodBlocks hash seen.told (λ held.
     FollowsReading (λ _. visits_now) (all_end held due visits) answer)
@@ -53,7 +53,7 @@ abbrev pub ReadsOneDue : (List ℕ → List ℕ) → Seen → List Due → List 
 ReadsOneDue hash seen due due_now visits visits_now answer = ByGoodBlocks hash seen.told (λ held.
     StepsTo (all_end held due visits) (all_end held due_now visits_now) answer)
 
--- the ways of the shards in a pile were added, and so many visits are left
+-- the ways of the shards in a pile were added, and n visits are left
 abbrev pub AddsFrames : (List ℕ → List ℕ) → Seen → List Frame → Ways → Ways → ℕ → ℕ → Result Unit DagFault → Type 0
 AddsFrames hash seen frames met met_now visits visits_now answer = ByGoodBlocks hash seen.told (λ held.
     FollowsReading (λ _. (met_now, visits_now)) (frames_ways held frames met visits) answer)

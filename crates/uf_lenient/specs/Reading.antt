@@ -36,7 +36,7 @@ abbrev pub ◌>>◌ : {A B : Type 0} → Visits A → (A → ℕ → Visits B) �
 (Ok x) >> f = f x.0 x.1
 (Err e) >> f = Err e
 
--- what makes no visit, after so many that are left
+-- what makes no visit, where n are left
 abbrev pub unvisited : {A : Type 0} → ℕ → Result A DagFault → Visits A
 unvisited n (Ok a) = Ok (a, n)
 unvisited n (Err e) = Err e
@@ -159,8 +159,7 @@ module _ (held : Lookup) where
       joined_parts (part_bytes left) links n >> λ more m. Ok (FileTree meta (bytes ++ more), m)
   completed read left (IsFolder meta ways) n = member_trees read ways n >> λ es m. Ok (Dir (entries meta es), m)
 
-  -- the tree under a CID, with so much depth left; directories nest at most as deep as that, so `room` of as much is
-  -- enough
+  -- the tree under a CID, with n levels left; directories nest at most as deep, so `room` of as much is enough
   unfoldable pub tree_within : ℕ → ℕ → Cid → ℕ → Visits Tree
   unfolding part_bytes gathered
   tree_within zero left c n = Err (TooDeep c)

@@ -47,7 +47,7 @@ file_content = 8 ∷ 2 ∷ []
 abbrev pub shard_content : List ℕ
 shard_content = 8 ∷ 5 ∷ 0x28 ∷ 0x22 ∷ 0x30 ∷ 0x80 ∷ 2 ∷ []
 
--- a mode of 0644 and one of 0755, and an mtime of 1 second and so many nanoseconds, in four bytes from the last one on
+-- a mode of 0644 and one of 0755, and an mtime of 1 second and some nanoseconds, in four bytes from the last one on
 abbrev pub mode_644 : List ℕ
 mode_644 = 0x38 ∷ 0xa4 ∷ 3 ∷ []
 
@@ -161,7 +161,7 @@ bytes_of_file_at n = file_of some_blocks usual_limits (nth_node n)
 abbrev pub led_from : ℕ → List (List ℕ) → Result Cid DagFault
 led_from n names = resolve_from some_blocks usual_limits 0 names (nth_node n)
 
--- the same within so many levels and visits
+-- the same within these levels and visits
 abbrev pub denoted_within : ℕ → ℕ → ℕ → Result Tree DagFault
 denoted_within depth visits n = denotes some_blocks (with_limits depth visits) (nth_node n)
 

@@ -14,7 +14,7 @@ use Rattle.uf_lenient.specs.declared.fault.StreamFault.TheVariants.{Sink, Dag}
 use Rattle.uf_lenient.specs.Answers.{IsFault, store_fault_of}
 use Rattle.uf_lenient.specs.Steps.{Rest, prefixed, to_come}
 
--- the bytes of a file were written, so many of them; a count stands at the last value of a u64
+-- the n bytes of a file were written; a count stands at the last value of a u64
 pub record IsStreamed (said : Result (List ℕ) DagFault) (held now : Sent) (count : ℕ) : Type 0 where
   pub bytes : List ℕ
   pub is : said ≡ Ok bytes

@@ -28,7 +28,7 @@ visited_below visits left ds (Ok own) = visits (parts_due (left - 1) own.0.1 ++ 
 visited_below visits left ds (Err fault) = []
 
 module _ (held : Lookup) where
-  -- the CIDs that are visited while what is due of a file is read, one after the other, where so many visits are left
+  -- the CIDs that are visited while what is due of a file is read, one after the other, where n visits are left
   abbrev pub visited_from : ℕ → List Due → List Cid
   visited_from zero ds = []
   visited_from (suc n) [] = []

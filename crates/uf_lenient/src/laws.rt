@@ -76,8 +76,8 @@ pub fn a_tree_is_read_step_by_step()
 {}
 
 /// Calls of `Pieces::next` give one file, where each of their stores holds the same under each CID that the reading of
-/// the file visits: their pieces are its front, and the next such call ends it or says its fault. Where the file has
-/// bytes, a store that holds all that the first one held is such a store.
+/// the file visits: their pieces are a prefix of it, and the next such call ends it or says its fault. Where the file
+/// has bytes, a store that holds all that the first one held is such a store.
 pub fn pieces_are_of_one_file()
     ensures front { (held : Held) (limits : Limits) (c : Cid) (calls : List (Held × List ℕ)) (now : Rest)
         → GaveOfFile held limits c calls now → IsFileFront (pieces_of calls) (file_of held limits c) }

@@ -5,8 +5,8 @@ use std::marker::Model;
 use uf_cid::{Cid, Copied, Memory, Seq};
 use uf_tree::{Meta, Name};
 
-/// How far a reading goes: at most so many links below its start, and so many visits, where a block that is linked
-/// twice counts twice.
+/// How far a reading goes: the most links below its start, and the most visits, where a block that is linked twice
+/// counts twice.
 #[derive(Clone, Copy, PartialEq, Eq)]
 pub struct Limits {
     pub depth: u32,

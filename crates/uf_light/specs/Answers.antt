@@ -109,7 +109,7 @@ IsBehindCar (fault.OtherRoot c) = ⊥
 IsBehindCar (fault.Store (store.Clash c a b)) = ⊥
 IsBehindCar _ = Unit {0}
 
--- a refused CAR is told so, unless there was no memory; one that isn't refused isn't told so
+-- a refused CAR is reported so, unless there was no memory; one that isn't refused isn't
 abbrev pub OpensAs : {A : Type 0} → Result Unit LightFault → Result A LightFault → Type 0
 OpensAs (Ok done) (Ok n) = Unit {0}
 OpensAs (Ok done) (Err f) = IsBehindCar f

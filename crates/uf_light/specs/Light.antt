@@ -66,8 +66,8 @@ of_there true t = Err fault.Exists
 of_there false (File m bytes) = Ok bytes
 of_there false (Dir es) = Err fault.IsADirectory
 
--- what is written where a lookup is refused at the name after so many names, or at the last of so many; it is refused
--- for no other reason
+-- what is written where a lookup is refused at the name after n names, or at the last of n; it is refused for no other
+-- reason
 abbrev pub of_refused : Bool → List (List ℕ) → Refused → Result (List ℕ) LightFault
 of_refused true names (why.NotFound led) = Ok (absent_text names)
 of_refused false names (why.NotFound led) = Err (fault.NotFound (led - 1))

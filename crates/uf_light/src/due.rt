@@ -31,7 +31,7 @@ impl CidStack {
         }
     }
 
-    // Puts a CID in front.
+    // Puts a CID first.
     pub fn push(&mut self, cid: Cid) -> Result<(), Memory>
         ensures ok { OnOk result (self.new ≡ cid ∷ self.old) }
     {

@@ -17,8 +17,8 @@ use uf_murmur::NameHash;
 use uf_store::{Steps, Store, StoreFault};
 use uf_tree::{Entry, Name};
 
-// What the names lead to from this thing, to which so many names led. The CIDs of the blocks that decide each name go
-// to the end of the list.
+// What the names lead to from this thing, to which n names led. The CIDs of the blocks that decide each name go to the
+// end of the list.
 pub fn gather<S: Store, N: NameHash, L: Ledger>(
     alloc: Global,
     store: &mut S,

@@ -17,7 +17,7 @@ use uf_murmur::NameHash;
 use uf_store::{Steps, Store, StoreFault};
 use uf_tree::{Entry, Name};
 
-// What the names lead to from this thing, to which so many names led.
+// What the names lead to from this thing, to which n names led.
 pub fn look<S: Store, N: NameHash, L: Ledger>(
     alloc: Global,
     store: &mut S,

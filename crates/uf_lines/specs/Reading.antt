@@ -79,7 +79,7 @@ pub record TakesFew (before now : Lines) (left left_now : Told) : Type 0 where
   pub taken : left ≡ in_front bytes left_now
   pub few : length bytes + may_read now ≤ may_read before
 
--- a line takes some of the limit, so there are only so many
+-- a line takes some of the limit, so there are only finitely many
 abbrev pub IsShorter : Line → Lines → Lines → Type 0
 IsShorter Given before now = line_room now < line_room before
 IsShorter other before now = Unit {0}

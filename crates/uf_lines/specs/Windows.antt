@@ -10,7 +10,7 @@ use Rattle.uf_lines.specs.declared.window.SourceBuffer.{SourceBuffer}
 abbrev pub in_window : SourceBuffer → List ℕ
 in_window w = take (w.to - w.from) (drop w.from w.buffer.items)
 
--- some bytes of the source, at most so many, stand after those that were there
+-- some bytes of the source, at most n, stand after those that were there
 pub record TakesBehind (count : ℕ) (before now : List ℕ) (left left_now : Told) : Type 0 where
   pub given : List ℕ
   pub some : 0 < length given

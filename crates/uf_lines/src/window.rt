@@ -46,7 +46,7 @@ impl SourceBuffer {
         self.from += count;
     }
 
-    // Reads once after the bytes that are there, at most so many. There are at most `most` of them.
+    // Reads once at most `count` bytes, after those that are there, which are at most `most`.
     pub fn read<I: Source>(
         &mut self,
         input: &mut I,

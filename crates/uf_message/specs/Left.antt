@@ -1,4 +1,4 @@
--- What is left of bytes after a front.
+-- What is left of bytes after a prefix.
 use Rattle.std.specs.Prelude.{Bool, false, ℕ, List, [], ◌∷◌, ◌==◌, flat_map, length, if◌then◌else◌}
 use Rattle.std.specs.Option.{option_and_then, option_map}
 use Rattle.std.specs.Borrow.{Bor}

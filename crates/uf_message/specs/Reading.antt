@@ -42,7 +42,7 @@ abbrev pub bytes_of : ℕ → Field → Option (List ℕ)
 bytes_of key (Keyed k (Ok (Bytes b))) = if k == key then Some b else None
 bytes_of key _ = None
 
--- at most so many varints, one after the other
+-- at most n varints, one after the other
 unfoldable pub run_within : ℕ → List ℕ → Result (List ℕ) CutFault
 run_within zero bytes = Ok []
 run_within (suc n) [] = Ok []

@@ -54,7 +54,7 @@ fn is_canonical(message: &Message, bytes: &[u8]) -> bool
     }
 }
 
-// The bytes after the canonical spelling of the message, where it stands in front.
+// The bytes after the canonical spelling of the message, where it comes first.
 #[tactic(auto, unfolding(crate::specs::Left::message_left))]
 fn behind_message<'a>(message: &Message, bytes: &'a [u8]) -> Option<&'a [u8]>
     ensures { seen_left result ≡ message_left message.now bytes.now }
@@ -79,7 +79,7 @@ fn wide(mode: Option<u32>) -> Option<u64>
     }
 }
 
-// The bytes after a field with a number, where it is wanted and stands in front.
+// The bytes after a field with a number, where it is wanted and comes first.
 fn behind_number<'a>(key: u8, number: Option<u64>, bytes: &'a [u8]) -> Option<&'a [u8]>
     ensures { seen_left result ≡ left (optional (number_field key) number) bytes.now }
 {
@@ -89,7 +89,7 @@ fn behind_number<'a>(key: u8, number: Option<u64>, bytes: &'a [u8]) -> Option<&'
     }
 }
 
-// The bytes after the content, where it is wanted and stands in front.
+// The bytes after the content, where it is wanted and comes first.
 #[tactic(auto, using(crate::proofs::Fronts::content_left))]
 fn behind_content<'a>(content: &Option<Block>, bytes: &'a [u8]) -> Option<&'a [u8]>
     ensures { seen_left result ≡ left (optional (content_field 0x12) content.now) bytes.now }
@@ -103,7 +103,7 @@ fn behind_content<'a>(content: &Option<Block>, bytes: &'a [u8]) -> Option<&'a [u
     }
 }
 
-// The bytes after the sizes of blocks, where these stand in front.
+// The bytes after the sizes of blocks, where these come first.
 fn behind_sizes<'a>(sizes: &[u64], bytes: &'a [u8]) -> Option<&'a [u8]>
     ensures { seen_left result ≡ left (flat_map (number_field 0x20) sizes.now) bytes.now }
 {
@@ -117,7 +117,7 @@ fn behind_sizes<'a>(sizes: &[u64], bytes: &'a [u8]) -> Option<&'a [u8]>
     Some(rest)
 }
 
-// The bytes after the time, where it is wanted and stands in front.
+// The bytes after the time, where it is wanted and comes first.
 fn behind_mtime<'a>(mtime: Option<Mtime>, bytes: &'a [u8]) -> Option<&'a [u8]>
     ensures { seen_left result ≡ left (optional (λ t. content_field 0x42 (mtime_bytes t)) mtime) bytes.now }
 {
@@ -127,7 +127,7 @@ fn behind_mtime<'a>(mtime: Option<Mtime>, bytes: &'a [u8]) -> Option<&'a [u8]>
     }
 }
 
-// The bytes after a time, where it stands in front.
+// The bytes after a time, where it comes first.
 fn behind_time<'a>(mtime: Mtime, bytes: &'a [u8]) -> Option<&'a [u8]>
     ensures { seen_left result ≡ left (content_field 0x42 (mtime_bytes mtime)) bytes.now }
 {
@@ -140,7 +140,7 @@ fn behind_time<'a>(mtime: Mtime, bytes: &'a [u8]) -> Option<&'a [u8]>
     }
 }
 
-// The bytes after the nanoseconds, where these are wanted and stand in front.
+// The bytes after the nanoseconds, where these are wanted and come first.
 fn behind_nanos<'a>(nanos: Option<u32>, bytes: &'a [u8]) -> Option<&'a [u8]>
     ensures { seen_left result ≡ left (optional (fixed_field 0x15) nanos) bytes.now }
 {
@@ -153,7 +153,7 @@ fn behind_nanos<'a>(nanos: Option<u32>, bytes: &'a [u8]) -> Option<&'a [u8]>
     }
 }
 
-// The bytes after two fronts, one after the other.
+// The bytes after two prefixes, one after the other.
 #[tactic(auto, using(crate::proofs::Fronts::left_append))]
 fn behind_two<'a>(one: &[u8], two: &[u8], bytes: &'a [u8]) -> Option<&'a [u8]>
     ensures { seen_left result ≡ left (one.now ++ two.now) bytes.now }
@@ -164,7 +164,7 @@ fn behind_two<'a>(one: &[u8], two: &[u8], bytes: &'a [u8]) -> Option<&'a [u8]>
     }
 }
 
-// The bytes after a front, where it stands there.
+// The bytes after a prefix, where it stands there.
 #[tactic(auto, using(crate::proofs::Fronts::left_is))]
 fn behind<'a>(front: &[u8], bytes: &'a [u8]) -> Option<&'a [u8]>
     ensures { seen_left result ≡ left front.now bytes.now }

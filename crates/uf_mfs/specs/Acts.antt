@@ -119,7 +119,7 @@ module _ (X : List ℕ → List ℕ) (N : List ℕ → ℕ) (p : Profile) where
       where_done next (file_touches p rows what piece (member_at names es))
   act_touches rows (Remake what) piece names es next = where_done next 3
 
-  -- the touches of an edit at these names: so many, those of directories that become sharded or basic, and its own
+  -- the touches of an edit at these names: n, those of directories that become sharded or basic, and its own
   abbrev pub act_bound : ℕ → (ℕ → ℕ) → Act → List ℕ → List (List ℕ) → (Entries → Result Entries Refused) → Entries → ℕ
   act_bound few rows what piece names next es =
       few + crossings_of X N p names es (next es) + act_touches rows what piece names es (next es)
@@ -142,7 +142,7 @@ module _ (X : List ℕ → List ℕ) (N : List ℕ → ℕ) (before now : Seen) 
       → EditsFolder X N mfs.profile before now (act_brought X N mfs.profile what t) mfs.root
       (acted_at mfs.profile what piece t names) result
 
-  -- and so many touches are enough for it
+  -- and this many touches are enough for it
   abbrev pub TouchesRoot : Mfs → Act → List ℕ → List (List ℕ) → (was is : ℕ) → Type 0
   TouchesRoot mfs what piece names was is = (t : Tree) (rows : ℕ → ℕ) → IsActMeant X N mfs.profile what t
       → HasRows X N mfs.profile what rows
@@ -162,7 +162,7 @@ module _ (X : List ℕ → List ℕ) (N : List ℕ → ℕ) (before now : Seen) 
         → ChangesFolder X N site.profile before now (act_brought X N site.profile site.what t) folder
         (edited_along site t name names) result
 
-    -- and so many touches are enough for it
+    -- and this many touches are enough for it
     abbrev pub TouchesAlong : List ℕ → List (List ℕ) → (was is : ℕ) → Type 0
     TouchesAlong name names was is = (t : Tree) (rows : ℕ → ℕ) → IsActMeant X N site.profile site.what t
         → HasRows X N site.profile site.what rows
@@ -193,7 +193,7 @@ module _ (X : List ℕ → List ℕ) (N : List ℕ → ℕ) (before now : Seen) 
           → ChangesOver X N site.profile before now (act_brought X N site.profile site.what t) es
           (acted_by site t (site.led + 1) name es) result
 
-      -- and so many touches are enough for it
+      -- and this many touches are enough for it
       abbrev pub TouchesActing : (was is : ℕ) → Type 0
       TouchesActing was is = (t : Tree) (rows : ℕ → ℕ) (es : Entries) → IsActMeant X N site.profile site.what t
           → HasRows X N site.profile site.what rows

@@ -1,4 +1,4 @@
--- Copies and moves in the tree: a refusal is told with the path that it is about.
+-- Copies and moves in the tree: a refusal is reported with the path that it is about.
 use Rattle.std.specs.Prelude.{◌≡◌, ℕ, ◌≤◌, ◌+◌, ◌*◌, List, [], length, Bool, true, false, ⊤}
 use Rattle.std.specs.declared.option.Option.{Option}
 use Rattle.std.specs.declared.option.Option.TheVariants.{None, Some}
@@ -102,7 +102,7 @@ pub record EditsTree {A : Type 0} (hash : List ℕ → List ℕ) (IsBad : Role �
 abbrev pub lands : List (List ℕ) → List ℕ → Entries → Result (Spot × Entries) Refused
 lands folder name es = and_then (folder_at folder es) (spot_in folder (Some name))
 
--- that spot, where nothing is there; a folder that isn't there is told with these names
+-- that spot, where nothing is there; a folder that isn't there is reported with these names
 abbrev pub vacant_at : List (List ℕ) → List (List ℕ) → List ℕ → Entries → Result Spot Rule
 vacant_at names folder name es = then_go (told_of names (lands folder name es)) (λ (found : Spot × Entries).
     told_of (spot_names found.0) (as_vacant found.0 (child found.0.name found.1)))
@@ -150,7 +150,7 @@ module _ (X : List ℕ → List ℕ) (N : List ℕ → ℕ) where
         (λ fs e. IsAfter X N before.told now.told (blocks X N was.profile (Dir es)) was.profile e (Dir fs))
         (allowed_move X N was.profile (next es)) result
 
-    -- and so many touches are enough for it, whatever the answer
+    -- and this many touches are enough for it, whatever the answer
     abbrev pub TouchesThing : (was : Mfs) → List (List ℕ) → Tree → Thing → (Entries → ℕ) → ℕ → ℕ → Type 0
     TouchesThing was source t thing bound t0 t1 = (es : Entries)
         → IsFolderOver X N was.profile before now [] was.root es → at 0 source (Dir es) ≡ Ok t
@@ -233,7 +233,7 @@ module _ (X : List ℕ → List ℕ) (N : List ℕ → ℕ) (p : Profile) where
       ]
 
 module _ (X : List ℕ → List ℕ) (N : List ℕ → ℕ) (before now : Seen) (was : Mfs) where
-  -- so many touches are enough for a copy in the tree in memory
+  -- this many touches are enough for a copy in the tree in memory
   abbrev pub TouchesCopy : List (List ℕ) → Path → ℕ → ℕ → Type 0
   TouchesCopy source dest t0 t1 = TouchesTree X N before now was (copy_bound X N was.profile source dest) t0 t1
 
@@ -248,7 +248,7 @@ module _ (X : List ℕ → List ℕ) (N : List ℕ → ℕ) (before now : Seen) 
         → IsFound X N before.told was.profile found target
         → MovesThing X N before now was source t thing (moved_to source t found) result
 
-    -- and so many touches are enough for it: a few for each name of both, and those of the removal and of the put
+    -- and this many touches are enough for it: a few for each name of both, and those of the removal and of the put
     abbrev pub TouchesFound : MoveTarget → ℕ → ℕ → Type 0
     TouchesFound target t0 t1 = (t : Tree) (found : Spot × Entries)
         → IsFound X N before.told was.profile found target → TouchesThing X N before now was source t thing
@@ -259,7 +259,7 @@ module _ (X : List ℕ → List ℕ) (N : List ℕ → ℕ) (before now : Seen) 
     MovesToSpot names result = (t : Tree) (spot : Spot) → names ≡ spot_names spot
         → MovesThing X N before now was source t thing (shifted source spot t) result
 
-    -- and so many touches are enough for it
+    -- and this many touches are enough for it
     abbrev pub TouchesToSpot : List (List ℕ) → ℕ → ℕ → Type 0
     TouchesToSpot names t0 t1 = (t : Tree) (spot : Spot) → names ≡ spot_names spot
         → TouchesThing X N before now was source t thing

@@ -118,7 +118,7 @@ module _ (X : List ℕ → List ℕ) (N : List ℕ → ℕ) (before now : Seen) 
       OverTree mfs (λ p es. AnswersOr (IsLossOf before.told (needs_at X N p (need p) names (Dir es)))
       (λ t a. a ≡ value p t) names (at 0 names (Dir es)) result)
 
-  -- and so many touches are enough: a few for each name, and those that what is there takes
+  -- and this many touches are enough: a few for each name, and those that what is there takes
   abbrev pub TouchesAt : Mfs → List (List ℕ) → (Profile → Tree → ℕ) → (was is : ℕ) → Type 0
   TouchesAt mfs names more was is = OverTree mfs (λ p es. is ≤ was + read_bound (more p) names (Dir es))
 

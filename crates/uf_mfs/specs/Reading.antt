@@ -52,7 +52,7 @@ abbrev pub range_needs : (List ℕ → List ℕ) → Profile → (height offset 
 range_needs X p height offset count (File m bytes) = blocks_read X p.chunk p.width m height offset count bytes
 range_needs X p height offset count (Dir es) = []
 
--- so many rows of nodes has a file of n bytes, where it has no metadata
+-- these are the rows of nodes of a file of n bytes, where it has no metadata
 abbrev pub AreHeights : Profile → (ℕ → ℕ) → Type 0
 AreHeights p rows = (n : ℕ) → IsHeight p.chunk p.width n (rows n)
 
@@ -66,7 +66,7 @@ range_touches p rows offset count (File m bytes) =
     2 * (pieces_met p.chunk offset count bytes + 2) * (rows_with rows m (length bytes) + 2)
 range_touches p rows offset count (Dir es) = 0
 
--- all of these bytes are after what the sink held, and so many they are
+-- all of these bytes are after what the sink held, and their number is n
 abbrev pub SendsAll : SinkTold → SinkTold → List ℕ → ℕ → Type 0
 SendsAll held held_now bytes n = (n ≡ length bytes) × (held_now ≡ after held bytes)
 
@@ -108,7 +108,7 @@ module _ (X : List ℕ → List ℕ) (N : List ℕ → ℕ) (before now : Seen) 
       → AnswersOr (IsLossOf before.told (needs_at X N p (range_needs X p height offset count) names (Dir es)))
       (λ bytes n. SendsAll held held_now bytes n) names (range_at offset count names es) result
 
-  -- and so many touches are enough: a few for each name, and those of the range
+  -- and this many touches are enough: a few for each name, and those of the range
   abbrev pub TouchesRange : List (List ℕ) → (was is : ℕ) → Type 0
   TouchesRange names was is = (p : Profile) (es : Entries) (rows : ℕ → ℕ) → StandsOver X N before.told mfs p es
       → AreHeights p rows → Stood before.faults now.faults

@@ -47,7 +47,7 @@ module _ (X : List ℕ → List ℕ) (N : List ℕ → ℕ) (p : Profile) (befor
   ChangesMeta what t (Ok (Some e)) = GivesRemade (meta_after what (meta_of t)) t (Ok e)
   ChangesMeta what t (Err given) = GivesRemade (meta_after what (meta_of t)) t (Err given)
 
-  -- the same of what is under a name, to which so many names led
+  -- the same of what is under a name, to which n names led
   abbrev pub ChangesMember : MetaEdit → ℕ → Option Tree → Result (Option Entry) Stop → Type 0
   ChangesMember what led None result = result ≡ Err (stop.Refused (NotFound led))
   ChangesMember what led (Some t) result = ChangesMeta what t result

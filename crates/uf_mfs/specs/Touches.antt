@@ -40,7 +40,7 @@ pub record CountsUp (fault : Option StoreFault) (before now : ℕ) : Type 0 wher
   pub kept : before ≤ now
   pub risen : IsBlaming fault → before < now
 
--- so many touches where this is done, none where a rule refuses it before its plan is looked at
+-- this many touches where this is done, none where a rule refuses it before its plan is looked at
 abbrev pub where_done : {A : Type 0} → Result A Refused → ℕ → ℕ
 where_done (Ok next) touches = touches
 where_done (Err why) touches = 0
@@ -119,7 +119,7 @@ module _ (X : List ℕ → List ℕ) (N : List ℕ → ℕ) (p : Profile) where
   rows_touches t = length (own_needs X N p t) + 2 * length (members_in t)
 
   -- where the entry is that of a folder, whose blocks the store agrees with before and after, and the store stayed
-  -- calm, so many touches are enough, whatever the answer
+  -- calm, this many touches are enough, whatever the answer
   abbrev pub TouchesFolder : (before now : Seen) → List Held → Entry → (Entries → ℕ) → ℕ → ℕ → Type 0
   TouchesFolder before now more folder bound was is = (es : Entries) → IsFolderOver X N p before now more folder es
       → is ≤ was + bound es
@@ -139,7 +139,7 @@ module _ (X : List ℕ → List ℕ) (N : List ℕ → ℕ) (p : Profile) where
   abbrev pub crossed : Entries → Entries → ℕ
   crossed es fs = crossing X N p (named_entries X N p es) (named_entries X N p fs)
 
-  -- a put under this name: so many touches, and those of a directory that becomes sharded
+  -- a put under this name: n touches, and those of a directory that becomes sharded
   abbrev pub putting_bound : ℕ → List ℕ → Tree → Entries → ℕ
   putting_bound few name t es = few + crossed es (with_child name t es)
 
@@ -148,7 +148,7 @@ module _ (X : List ℕ → List ℕ) (N : List ℕ → ℕ) (p : Profile) where
   taking_bound name es = 18 + weighing_from X N p name (named_entries X N p es) + crossed es (without_child name es)
 
 module _ (X : List ℕ → List ℕ) (N : List ℕ → ℕ) (before now : Seen) where
-  -- of the tree in memory, with whose blocks the store agrees before and after, so many touches are enough
+  -- of the tree in memory, with whose blocks the store agrees before and after, this many touches are enough
   abbrev pub TouchesTree : Mfs → (Entries → ℕ) → (was is : ℕ) → Type 0
   TouchesTree mfs bound was is = TouchesFolder X N mfs.profile before now [] mfs.root bound was is
 

@@ -152,7 +152,7 @@ writing_bound X N p rows what piece names es =
     touch_bound X N p names es next + where_done next (file_touches p rows what piece (member_at names es))
 
 module _ (X : List ℕ → List ℕ) (N : List ℕ → ℕ) (before now : Seen) where
-  -- so many touches are enough for an edit of the file at these names of the tree in memory
+  -- this many touches are enough for an edit of the file at these names of the tree in memory
   abbrev pub TouchesWriting : Mfs → FileEdit → List ℕ → List (List ℕ) → (was is : ℕ) → Type 0
   TouchesWriting mfs what piece names was is = (p : Profile) (rows : ℕ → ℕ) → mfs.profile ≡ p → AreHeights p rows
       → TouchesFolder X N p before now [] mfs.root (writing_bound X N p rows what piece names) was is
@@ -171,7 +171,7 @@ module _ (X : List ℕ → List ℕ) (before now : Seen) (site : EditSite) (what
       → MakesFile X N site.profile before now (blocks X N site.profile (Dir es)) (kept_meta (child name es))
       (fitting_bytes site.profile what site.piece.now (site.led + 1) (child name es)) result
 
-  -- and so many touches are enough for it
+  -- and this many touches are enough for it
   abbrev pub TouchesMember : (was is : ℕ) → Type 0
   TouchesMember was is = (N : List ℕ → ℕ) (rows : ℕ → ℕ) (folder : Entry) (name : List ℕ) (es : Entries)
       → AreHeights site.profile rows → IsAgreedMember X N before.told site.profile (child name es) found
@@ -193,7 +193,7 @@ module _ (X : List ℕ → List ℕ) (before now : Seen) (site : EditSite) where
       → MakesFile X N site.profile before now (blocks X N site.profile (File m bytes)) m
       (fitting site.profile (rewritten what site.piece.now bytes)) result
 
-  -- and so many touches are enough for it
+  -- and this many touches are enough for it
   abbrev pub TouchesFile : FileEdit → Entry → (was is : ℕ) → Type 0
   TouchesFile what old was is = (N : List ℕ → ℕ) (rows : ℕ → ℕ) (m : Meta) (bytes : List ℕ)
       → AreHeights site.profile rows → IsFileOver X N site.profile before now old m bytes

@@ -90,7 +90,7 @@ impl Mfs {
         self.take_over(alloc, names, edited)
     }
 
-    // Takes over the root that an edit answers; where it stopped, the root stays, and the fault is told with these
+    // Takes over the root that an edit answers; where it stopped, the root stays, and the fault is reported with these
     // names.
     pub(crate) fn take_over(
         &mut self,

@@ -20,8 +20,8 @@ use uf_plain::Refused;
 use uf_store::{Steps, Store, StoreFault};
 use uf_tree::{Entry, Name};
 
-/// What the names lead to from this thing, to which so many names led. It calls itself once a name, and a path has at
-/// most 2048 names (`Path::parse`).
+/// What the names lead to from this thing, to which n names led. It calls itself once a name, and a path has at most
+/// 2048 names (`Path::parse`).
 pub(crate) fn look<S: Store, N: NameHash, L: Ledger>(
     alloc: Global,
     store: &mut S,

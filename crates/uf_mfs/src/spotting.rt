@@ -146,7 +146,7 @@ fn folder_in(there: Option<Thing>) -> Option<Entry>
     }
 }
 
-// What is under a name in the folder that the names lead to; a refusal is told with these names.
+// What is under a name in the folder that the names lead to; a refusal is reported with these names.
 fn landing<S: Store, N: NameHash, L: Ledger>(
     alloc: Global,
     store: &mut S,

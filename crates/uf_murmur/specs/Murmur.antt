@@ -38,7 +38,7 @@ next_second h1 h2 k = plus (times (plus (rotate_left w64 (bit_xor h2 (second_par
 abbrev pub next_halves : ℕ × ℕ → ℕ → ℕ → ℕ × ℕ
 next_halves h k1 k2 = let h1 = next_first h.0 h.1 k1 in (h1, next_second h1 h.1 k2)
 
--- both halves after the first so many blocks of 16 bytes
+-- both halves after the first n blocks of 16 bytes
 unfoldable pub halves_after : List ℕ → ℕ → ℕ × ℕ
 halves_after bytes zero = (0, 0)
 halves_after bytes (suc n) = next_halves (halves_after bytes n) (word_at bytes (16 * n)) (word_at bytes (16 * n + 8))

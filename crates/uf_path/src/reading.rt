@@ -35,7 +35,7 @@ impl Path {
 }
 
 impl DagPath {
-    /// The path in a DAG that a text is: `/ipfs/` where it stands in front, the text of a CID, and the names after it.
+    /// The path in a DAG that a text is: `/ipfs/` where it comes first, the text of a CID, and the names after it.
     #[tactic(auto, unfolding(crate::specs::Paths::dag_path_reads))]
     pub fn parse(alloc: Global, text: &str) -> Result<DagPath, PathFault>
         ensures { ReadsAs result (dag_path_reads text.now) }

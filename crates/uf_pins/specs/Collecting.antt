@@ -17,7 +17,7 @@ use Rattle.uf_pins.specs.declared.fault.PinFault.TheVariants as fault
 use Rattle.uf_pins.specs.Notes.{IsBadNote, Lists}
 use Rattle.uf_pins.specs.Reach.{StopsReach, reach}
 
--- what is below the roots and the pins was kept, all else went, and so many blocks did
+-- what is below the roots and the pins was kept, all else went, and n blocks did
 pub record Collects (t : Contents) (most : ℕ) (roots : List Cid) (n : ℕ) (told : Told) : Type 0 where
   pub pins : List Cid
   pub listed : Lists t.notes.pins pins

@@ -14,7 +14,7 @@ use Rattle.uf_pins.specs.declared.fault.PinFault.{PinFault}
 use Rattle.uf_pins.specs.declared.fault.PinFault.TheVariants as fault
 
 -- the CIDs below some roots and themselves, from each root in turn in first-visit depth-first order, each once over
--- all and at most so many, or the first fault in that order
+-- all and at most n, or the first fault in that order
 abbrev pub reach : Lookup → ℕ → List Cid → Result (List Cid) OrderFault
 reach held most roots = ordered held (goes (follow_held held) most roots)
 

@@ -18,7 +18,7 @@ use uf_store::{Steps, Store};
 const MOST_PINS: usize = 65536;
 
 /// Pins a CID: all that is below it has to be there, is synced, and is kept by collections from then on. The note of
-/// one that was pinned stays as it is. One touch for each CID below it and itself, of which there may be so many.
+/// one that was pinned stays as it is. One touch for each CID below it and itself, of which there may be n.
 pub fn add_pin<S: Store, L: Ledger>(
     alloc: Global,
     store: &mut S,

@@ -15,7 +15,7 @@ use uf_store::{Steps, StoreFault, Sweep, Swept};
 
 /// Lets go of each block that no chain of links leads to from one of these roots or of the pins, and answers how many
 /// went. Nothing goes where the pins aren't read, or where something below them or the roots isn't there. One touch
-/// for each CID that is kept, of which there may be so many.
+/// for each CID that is kept, of which there may be n.
 pub fn collect<S: Sweep, L: Ledger>(
     alloc: Global,
     store: &mut S,

@@ -36,7 +36,7 @@ file_at names es = and_then (at 0 names (Dir es)) (as_file (length names))
 abbrev pub plain_bytes_at : List (List ℕ) → Entries → Result (List ℕ) Refused
 plain_bytes_at names es = and_then (at 0 names (Dir es)) (as_plain_file (length names))
 
--- what `read` gives: the bytes from the offset on, at most so many
+-- what `read` gives: the bytes from the offset on, at most n
 abbrev pub read : ℕ → ℕ → List (List ℕ) → Entries → Result (List ℕ) Refused
 read offset count names es = and_then (plain_bytes_at names es) (λ bytes. Ok (take count (drop offset bytes)))
 
@@ -75,8 +75,7 @@ with_bytes what piece led name es =
     let o = child name es in
     and_then (new_bytes what piece led o) (λ bytes. Ok (with_child name (File (kept_meta o) bytes) es))
 
--- the folder after an edit of the file at these names below it, to which so many names led, before its plan is looked
--- at
+-- the folder after an edit of the file at these names below it, to which n names led, before its plan is looked at
 abbrev pub file_edited : FileEdit → List ℕ → ℕ → List (List ℕ) → Entries → Result Entries Refused
 file_edited what piece led [] es = Err (IsADirectory led)
 file_edited what piece led (name ∷ names) es = edited (with_bytes what piece) led name names es

@@ -1,4 +1,4 @@
--- Copies and moves in the plain tree. A refusal is told with the path that it is about.
+-- Copies and moves in the plain tree. A refusal is reported with the path that it is about.
 use Rattle.std.specs.Prelude.{ℕ, ◌-◌, List, [], ◌∷◌, ◌++◌, length, take, slice_get, Bool, true, false, ◌||◌}
 use Rattle.std.specs.Prelude.{if◌then◌else◌}
 use Rattle.std.specs.declared.option.Option.{Option}
@@ -21,7 +21,7 @@ use Rattle.uf_plain.specs.declared.spot.Spot.{Spot}
 use Rattle.uf_plain.specs.Edits.{and_then, as_folder, at, child, edited, is_folder_at, removed, with_child}
 use Rattle.uf_plain.specs.Rules.{path_text, rule_of, unless}
 
--- a refusal told with its path
+-- a refusal reported with its path
 abbrev pub told_of : {A : Type 0} → List (List ℕ) → Result A Refused → Result A Rule
 told_of names (Ok a) = Ok a
 told_of names (Err why) = Err (rule_of names why)
@@ -78,7 +78,7 @@ edited_at change (name ∷ names) es = edited change 0 name names es
 abbrev pub put_at_spot : Spot → Tree → Entries → Result Entries Refused
 put_at_spot spot t es = edited_at (put_over t) (spot_names spot) es
 
--- the same, told with the spot's path
+-- the same, reported with the spot's path
 abbrev pub placed_at : Spot → Tree → Entries → Result Entries Rule
 placed_at spot t es = told_of (spot_names spot) (put_at_spot spot t es)
 

@@ -1,4 +1,4 @@
--- The rules that refuse an edit, and the path that they are told with.
+-- The rules that refuse an edit, and the path that they are reported with.
 use Rattle.std.specs.Prelude.{ℕ, List, [], ◌∷◌, take}
 use Rattle.std.specs.declared.option.Option.{Option}
 use Rattle.std.specs.declared.option.Option.TheVariants.{None, Some}

@@ -17,7 +17,7 @@ pub enum Rule {
     TooBig,
 }
 
-/// The rule that refuses a command, before its path is told: a number says how many names of the path lead to what
+/// The rule that refuses a command, before its path is reported: a number says how many names of the path lead to what
 /// decides.
 #[derive(Drop)]
 pub enum Refused {

@@ -1,4 +1,4 @@
-//! A rule told with the path up to the name that decides.
+//! A rule reported with the path up to the name that decides.
 ghost use Rattle.std.specs.Prelude.{◌≡◌, IfOk, take};
 ghost use Rattle.uf_plain.specs.Rules.{path_text as text_of, rule_of};
 ghost use Rattle.uf_plain.specs.declared.rule.Rule.TheVariants as rules;
@@ -39,7 +39,7 @@ pub fn path_text(alloc: Global, names: &[Name]) -> Result<Text, Memory>
     path_to(alloc, names, names.len())
 }
 
-// The path of so many names.
+// The path of the first n names.
 fn path_to(alloc: Global, names: &[Name], led: usize) -> Result<Text, Memory>
     ensures { IfOk result (λ text. text ≡ text_of (take led names.now)) }
 {

@@ -9,7 +9,7 @@ use uf_testing::{Sheet, begins_row, ends_part, say, word_and_rest};
 
 /// The calls that a program makes.
 pub trait Caller {
-    /// Makes the call of a line, and tells what comes of it; whether the line names one of these calls.
+    /// Makes the call of a line, and reports what comes of it; whether the line names one of these calls.
     fn call<X: BlockHash, L: Ledger>(
         scene: &mut Scene<X>,
         line: &str,
@@ -30,7 +30,7 @@ pub trait Player {
     ) -> Result<(), Memory>;
 }
 
-// Makes a call, and tells what comes of it.
+// Makes a call, and reports what comes of it.
 fn call<C: Caller, X: BlockHash, L: Ledger>(
     scene: &mut Scene<X>,
     line: &str,
@@ -57,8 +57,8 @@ fn call_each<C: Caller, X: BlockHash, L: Ledger>(
     Ok(())
 }
 
-// Makes calls on each prefix of the input over an empty store, and tells what came of them where that isn't what came
-// of the prefix before: `! fronts CALL then CALL`.
+// Makes calls on each prefix of the input over an empty store, and reports what came of them where that isn't what
+// came of the prefix before: `! fronts CALL then CALL`.
 fn call_fronts<C: Caller, X: BlockHash, L: Ledger>(
     scene: &mut Scene<X>,
     line: &str,
@@ -102,7 +102,7 @@ fn call_front<C: Caller, X: BlockHash, L: Ledger>(
     Ok(())
 }
 
-// Tells what came of a prefix, where it isn't what came of the one before.
+// Reports what came of a prefix, where it isn't what came of the one before.
 fn tell_new(
     alloc: Global,
     end: usize,

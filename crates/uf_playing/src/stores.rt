@@ -226,7 +226,7 @@ fn hold<X: BlockHash>(
     store.plant(&cid, held)
 }
 
-// Has a store hold a raw block of so many zeros: `hold-zeros N`.
+// Has a store hold a raw block of N zeros: `hold-zeros N`.
 fn hold_zeros<X: BlockHash>(
     alloc: Global,
     store: &mut MemStore<X>,
@@ -237,7 +237,7 @@ fn hold_zeros<X: BlockHash>(
     store.plant(&Cid::of::<X>(Codec::Raw, &bytes), held)
 }
 
-// What a stop after so many writes leaves, where the saves at these places are lost: `stop AT PLACE ..`.
+// What a stop after AT writes leaves, where the saves at these places are lost: `stop AT PLACE ..`.
 fn stopped<X: BlockHash>(
     alloc: Global,
     store: &MemStore<X>,

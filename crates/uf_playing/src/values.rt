@@ -42,7 +42,7 @@ pub fn failing(number: u64) -> Option<u64> {
     number.checked_sub(1)
 }
 
-/// A source of these bytes that gives so many in a call, of which one may fail.
+/// A source of these bytes that gives n in a call, of which one may fail.
 pub fn source_of(alloc: Global, bytes: &[u8], step: u64, fails: u64) -> Result<MemSource, Memory> {
     let block = block_of(alloc, bytes)?;
     let fails = calls(alloc, failing(fails))?;

@@ -81,7 +81,7 @@ due_by ask rest (Err (Missing c)) = ask c
 abbrev pub holding : Cid → List ℕ → Lookup → Lookup
 holding c block held d = if eq_by_cmp cid_cmp d c then Some block else held d
 
--- at most so many wants
+-- at most n wants
 unfoldable pub due_within : (List ℕ → List ℕ) → ℕ → Cid → ℕ → Lookup → ℕ → Frames → Due
 due_within hash most root zero held more rest =
     due_by (λ c. due_end (Err fault.TooMany) (first_place rest)) rest (order held most root)

@@ -79,7 +79,7 @@ pub record IsOnCourse (root : Cid) (held : Lookup) (walk : Walked) : Type 0 wher
 
 -- ---- the answers
 
--- so many of the blocks were kept, or all of them and then a sync was made
+-- the first n of the blocks were kept, or all of them and then a sync was made
 pub record KeepsFront (blocks : List Held) (t : Contents) (told_now : Told) : Type 0 where
   pub count : ℕ
   pub few : count ≤ length blocks
@@ -136,7 +136,7 @@ stand p = record { more = p.more; place = p.place; added = p.added }
 abbrev pub at_first : Stand
 at_first = record { more = 1024; place = 0; added = 0 }
 
--- what is due from there on, of at most so many blocks
+-- what is due from there on, of at most n blocks
 abbrev pub due_at : (List ℕ → List ℕ) → ℕ → Cid → ℕ → Contents → Stand → List ℕ → Due
 due_at hash most root n t s bytes = due_within hash most root n (held_at t) s.more (frames_from s.place bytes)
 

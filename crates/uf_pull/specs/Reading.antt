@@ -43,13 +43,13 @@ IsLength (Value size used) = used ≤ 9
 IsLength Short = ⊤
 IsLength Bad = ⊤
 
--- the bytes after what begins them: none where they end inside a frame
+-- the bytes after what they start with: none where they end inside a frame
 abbrev pub IsLeftBehind : List ℕ → Begins → List ℕ → Type 0
 IsLeftBehind bytes (Stands frame used) rest = rest ≡ drop used bytes
 IsLeftBehind bytes BreaksOff rest = rest ≡ []
 IsLeftBehind bytes Deviates rest = ⊤
 
--- what begins the bytes of a source was read into a buffer
+-- what the bytes of a source start with was read into a buffer
 pub record ReadsFront (buffer bytes : List ℕ) (front : FrameFront) (left_now : Told) : Type 0 where
   pub rest : List ℕ
   pub says : begins bytes ≡ front_says buffer front

@@ -31,7 +31,7 @@ wants_text cids = flat_map want_line cids
 
 -- ---- as they are read
 
--- what stands after a word in front
+-- what stands after a first word
 abbrev pub behind_word : List ℕ → List ℕ → Option (List ℕ)
 behind_word word line = if starts_with nat_eq line word then Some (drop (length word) line) else None
 

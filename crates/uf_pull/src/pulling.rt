@@ -39,7 +39,7 @@ pub fn pull<S: Store, I: Source, O: Sink, L: Ledger>(
     out: &mut O,
     touches: &mut Steps<L>,
 ) -> Result<u64, PullFault>
-    // Over a store and an input that tell: what is due is answered, asked for and kept; a failure leaves a front.
+    // Over a store and an input that tell: what is due is answered, asked for and kept; a failure leaves a prefix.
     ensures pulls { (t : Contents) (bytes : List ℕ) → (S.seen store.old).told ≡ Some t → I.left input.old ≡ Some bytes
         → Pulls (due S.X.block32 most cid.now (held_at t) bytes) bytes result t (S.seen store.new).told
         (O.holds out.old) (O.holds out.new) (I.left input.new) }

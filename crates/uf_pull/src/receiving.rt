@@ -12,7 +12,7 @@ use std::alloc::Global;
 use uf_cid::{BlockHash, Cid, Memory, zeros};
 use uf_edge::{Filled, Source, fill};
 
-// So many frames may be dropped.
+// The most frames that may be dropped.
 const MOST_DROPPED: u32 = 1024;
 
 impl Peer {
@@ -123,7 +123,7 @@ impl Peer {
         Ok(None)
     }
 
-    // Reads what begins the bytes of a source, and no byte after it.
+    // Reads what the bytes of a source start with, and no byte after it.
     fn read_front<I: Source>(&mut self, input: &mut I) -> Result<FrameFront, PullFault>
         ensures reads { (bytes : List ℕ) → I.left input.old ≡ Some bytes
             → IfOk result (λ front. ReadsFront self.new.buffer.items bytes front (I.left input.new)) }

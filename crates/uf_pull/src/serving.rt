@@ -35,7 +35,7 @@ pub fn serve<S: Store, I: Source, O: Sink, L: Ledger>(
     out: &mut O,
     touches: &mut Steps<L>,
 ) -> Result<u64, ServeFault>
-    // Over a store and an input that tell: a frame for each block that is asked for; a failure leaves a front.
+    // Over a store and an input that tell: a frame for each block that is asked for; a failure leaves a prefix.
     ensures frames { (t : Contents) (bytes : List ℕ) → (S.seen store.old).told ≡ Some t → I.left input.old ≡ Some bytes
         → ServesLines (held_at t) (asked_in limit bytes) result (O.holds out.old) (O.holds out.new) }
     ensures some { WritesBytes (O.holds out.old) (O.holds out.new) }
@@ -68,7 +68,7 @@ pub fn serve<S: Store, I: Source, O: Sink, L: Ledger>(
     }
 }
 
-// What is too long after so many lines: the next one, where so much of the limit is left, or else the input.
+// What is too long after n lines: the next one, where the limit has room for it, or else the input.
 fn overrun(room: u64, served: u64) -> ServeFault
     requires { 0 < room → served < 2 ^ 64 - 1 }
     ensures { result ≡ (if nat_lt 4096 room then BadWant (served + 1) else TooLong) }

@@ -34,7 +34,7 @@ fn act_over<X: BlockHash, N: NameHash, L: Ledger>(
     world.note(ends, status, false)
 }
 
-// Does a command over the cache, and tells what came of it, but not whether it wrote.
+// Does a command over the cache, and reports what came of it, but not whether it wrote.
 fn act_cached<X: BlockHash, N: NameHash, L: Ledger>(
     world: &mut World<X>,
     store: &mut Cached<MemStore<X>>,

@@ -69,7 +69,7 @@ fn change<X: BlockHash, N: NameHash, L: Ledger>(
     told.extend(b"> no such line\n")
 }
 
-// Does a line, and tells what comes of it.
+// Does a line, and reports what comes of it.
 fn step<X: BlockHash, N: NameHash, L: Ledger>(
     world: &mut World<X>,
     line: &str,

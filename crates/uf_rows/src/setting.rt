@@ -172,7 +172,7 @@ pub fn set<X: BlockHash>(
     set_store(world, word, rest)
 }
 
-/// Tells how many blocks are held.
+/// Reports how many blocks are held.
 pub fn tell_blocks<X: BlockHash>(world: &World<X>, told: &mut Block) -> Result<(), Memory> {
     tell_count(told, world.alloc, world.store.count())
 }

@@ -47,7 +47,7 @@ impl Tries {
         self.now.as_slice() == self.whole.as_slice()
     }
 
-    // Tells the answer of now after a line, where it isn't the one before.
+    // Reports the answer of now after a line, where it isn't the one before.
     fn tell_new(&mut self, head: &str, told: &mut Block) -> Result<(), Memory> {
         if self.now.as_slice() != self.last.as_slice() {
             told.extend(head.as_bytes())?;
@@ -144,7 +144,7 @@ fn prepare<X: BlockHash>(world: &World<X>, copy: &mut World<X>, bar: Bar) -> Res
     set_bar(copy, bar)
 }
 
-// Asks what is left, and tells the answers.
+// Asks what is left, and reports the answers.
 fn ask<X: BlockHash, N: NameHash, L: Ledger>(
     world: &mut World<X>,
     told: &mut Block,
@@ -249,7 +249,7 @@ pub fn fail_all<X: BlockHash, N: NameHash, L: Ledger>(
     Ok(())
 }
 
-// Tells what a command does with a number in its way, where that isn't what the number before it did.
+// Reports what a command does with a number in its way, where that isn't what the number before it did.
 fn try_at<X: BlockHash, N: NameHash, L: Ledger>(
     world: &World<X>,
     bar: (Bar, &str, usize),
@@ -328,7 +328,7 @@ fn stop_over<X: BlockHash, N: NameHash, L: Ledger>(
     ask::<X, N, L>(left, &mut tries.now, touches)
 }
 
-/// Does a command, and tells what a stop at each of its writes leaves: each answer once.
+/// Does a command, and reports what a stop at each of its writes leaves: each answer once.
 pub fn stop_all<X: BlockHash, N: NameHash, L: Ledger>(
     world: &mut World<X>,
     words: &str,

@@ -99,7 +99,7 @@ impl<X: BlockHash> World<X> {
         Ok(())
     }
 
-    /// Tells what came of the last command. Nothing is told of what it printed where that is a prefix of this.
+    /// Reports what came of the last command. Nothing is reported of what it printed where that is a prefix of this.
     pub fn tell(&self, whole: &[u8], told: &mut Block) -> Result<(), Memory> {
         let printed = self.output.as_slice();
         if whole.len() <= printed.len() || !whole.starts_with(printed) {
@@ -171,7 +171,7 @@ fn act_over<X: BlockHash, N: NameHash, L: Ledger>(
     world.note(ends, status, wrote)
 }
 
-/// Does a command, and tells what came of it.
+/// Does a command, and reports what came of it.
 pub fn act_and_tell<X: BlockHash, N: NameHash, L: Ledger>(
     world: &mut World<X>,
     line: &str,
@@ -182,7 +182,7 @@ pub fn act_and_tell<X: BlockHash, N: NameHash, L: Ledger>(
     world.tell(b"", told)
 }
 
-/// Does the lines of the input as a batch of at most this many bytes, and tells what came of it.
+/// Does the lines of the input as a batch of at most this many bytes, and reports what came of it.
 pub fn act_in_batch<X: BlockHash, N: NameHash, L: Ledger>(
     world: &mut World<X>,
     limit: u64,

@@ -30,13 +30,13 @@ abbrev pub FitsSlot : (List ℕ → ℕ) → ℕ → List Named → Type 0
 FitsSlot N zero l = length l ≤ 1
 FitsSlot N (suc left) l = (length l ≤ 1) ⊎ HasShard N left l
 
--- rows that a slot of the shard with so many levels below it can take
+-- rows that a slot of the shard with n levels below it can take
 pub record AreForSlot (N : List ℕ → ℕ) (left : ℕ) (rows : List Hashed) : Type 0 where
   pub hashed : AreHashed N rows
   pub named : AllByRecursion IsNamed (pairs_of rows)
   pub fits : FitsSlot N left (pairs_of rows)
 
--- rows that have a shard with so many levels below it
+-- rows that have a shard with n levels below it
 pub record AreForShard (N : List ℕ → ℕ) (left : ℕ) (rows : List Hashed) : Type 0 where
   pub hashed : AreHashed N rows
   pub named : AllByRecursion IsNamed (pairs_of rows)
@@ -44,7 +44,7 @@ pub record AreForShard (N : List ℕ → ℕ) (left : ℕ) (rows : List Hashed) 
   pub apart : HasShard N left (pairs_of rows)
 
 module _ (X : List ℕ → List ℕ) (N : List ℕ → ℕ) where
-  -- the shard below a slot of the shard with so many levels below it, which has no metadata
+  -- the shard below a slot of the shard with n levels below it, which has no metadata
   abbrev pub deeper : ℕ → List Named → Plan
   deeper zero = no_shard X N
   deeper (suc left) = shard X N left none

@@ -29,7 +29,7 @@ use Rattle.uf_shard.specs.Buckets.{FitsSlot, deeper}
 use Rattle.uf_shard.specs.Placed.{way}
 use Rattle.uf_shard.specs.Known.{AreKnown}
 
--- the level that has so many below it
+-- the level that has n below it
 abbrev pub level : ℕ → ℕ
 level zero = 7
 level (suc left) = 6 - left
@@ -81,12 +81,12 @@ module _ (N : List ℕ → ℕ) where
     pub differ : other ≢ name
     pub are : IsOrdered name other first second
 
-  -- the names have the slots of a hash at so many levels
+  -- the names have the slots of a hash at n levels
   abbrev pub AreAlong : ℕ → ℕ → List Named → Type 0
   AreAlong hash levels l = AllByRecursion (λ (e : Named). way (N e.0) levels ≡ way hash levels) l
 
 module _ (X : List ℕ → List ℕ) (N : List ℕ → ℕ) where
-  -- the slots of the shard of these pairs with so many levels below it, and the shard blocks below it
+  -- the slots of the shard of these pairs with n levels below it, and the shard blocks below it
   abbrev pub slots_of : ℕ → List Named → List InSlot
   slots_of left l = shard_items N (deeper X N left) (level left) l
 

@@ -34,12 +34,12 @@ pub record Lists (Below : Cid → List Named → Type 0) (held : Lookup) (cid : 
 abbrev pub NoneBelow : Cid → List Named → Type 0
 NoneBelow cid rows = ⊥
 
--- the names of the shard tree under a CID that has so many levels below its root (UnixFS v1, "HAMTDirectory")
+-- the names of the shard tree under a CID that has n levels below its root (UnixFS v1, "HAMTDirectory")
 abbrev pub AreRows : Lookup → ℕ → Cid → List Named → Type 0
 AreRows held zero cid rows = Lists NoneBelow held cid rows
 AreRows held (suc left) cid rows = Lists (AreRows held left) held cid rows
 
--- the names of a shard that stands below one with so many levels below it
+-- the names of a shard that stands below one with n levels below it
 abbrev pub AreRowsBelow : Lookup → ℕ → Cid → List Named → Type 0
 AreRowsBelow held zero cid rows = ⊥
 AreRowsBelow held (suc left) cid rows = AreRows held left cid rows

@@ -22,8 +22,8 @@ use Rattle.uf_tree.specs.Shardable.{HasShard}
 use Rattle.uf_tree.specs.Validity.{IsDirectory}
 use Rattle.uf_shard.specs.Placed.{IsBadOnWay, IsPlacedNode, way}
 
--- the CID is that of the shard with this metadata and these pairs, which is reached on the way of a hash with so many
--- levels left
+-- the CID is that of the shard with this metadata and these pairs, which is reached on the way of a hash with n levels
+-- left
 pub record IsReached (X : List ℕ → List ℕ) (N : List ℕ → ℕ) (hash left : ℕ) (root : Cid) (m : Meta) (l : List Named)
     : Type 0 where
   pub good : IsTrue (is_meta m)

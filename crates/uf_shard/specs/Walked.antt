@@ -33,7 +33,7 @@ abbrev pub MayCarryAt : ℕ → Meta → Type 0
 MayCarryAt zero m = ⊤
 MayCarryAt (suc level) m = m ≡ none
 
--- a shard with so many levels below it
+-- a shard with n levels below it
 pub record IsAbove (left : ℕ) (node : ShardNode) : Type 0 where
   pub valid : IsShardNode node
   pub carries : MayCarryAt (7 - left) node.meta
@@ -46,7 +46,7 @@ pub record HasItems (left : ℕ) (cid : Cid) (before : Seen) (items : List InSlo
   pub above : IsAbove left node
   pub is_held : IfSome before.told (λ t. held_at t cid ≡ Some (shard_node_block node))
 
--- the block was found, and it is no shard with so many levels below it
+-- the block was found, and it is no shard with n levels below it
 pub record IsNoShard (left : ℕ) (cid : Cid) (before now : Seen) : Type 0 where
   pub is_held : IfSome before.told (λ t. held_at t cid ≡ Some now.lent)
   pub no_shard : (node : ShardNode) → IsAbove left node → now.lent ≢ shard_node_block node
@@ -62,7 +62,7 @@ LoadsItems left cid before now (Err (Clash c held bytes)) = ⊥
 LoadsItems left cid before now (Err Memory) = ⊤
 
 module _ (X : List ℕ → List ℕ) (N : List ℕ → ℕ) where
-  -- the CID is that of the shard with this metadata, these pairs and so many levels below it
+  -- the CID is that of the shard with this metadata, these pairs and n levels below it
   pub record IsRoot (left : ℕ) (root : Cid) (m : Meta) (l : List Named) : Type 0 where
     pub good : IsTrue (is_meta m)
     pub carries : MayCarryAt (7 - left) m
@@ -71,7 +71,7 @@ module _ (X : List ℕ → List ℕ) (N : List ℕ → ℕ) where
     pub apart : HasShard N left l
     pub cid : root ≡ (shard X N left m l).entry.cid
 
-  -- a slot of a shard with so many levels below it has these pairs
+  -- a slot of a shard with n levels below it has these pairs
   abbrev pub IsOver : ℕ → Item → List Named → Type 0
   IsOver left (Leaf name e) l = l ≡ (name, e) ∷ []
   IsOver zero (Sub e) l = ⊥

@@ -111,8 +111,7 @@ pub fn save_root<S: Store, L: Ledger>(
     within(entry)
 }
 
-// Saves the shards of these rows, of which the highest has so many levels below it and this metadata, and answers its
-// entry.
+// Saves the shards of these rows, of which the highest has n levels below it and this metadata, and answers its entry.
 #[cycle(shards)]
 fn save_shard<S: Store, N: NameHash, L: Ledger>(
     alloc: Global,

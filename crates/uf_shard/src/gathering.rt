@@ -19,7 +19,7 @@ use uf_cid::{Cid, Memory, cids_are_whole};
 use uf_store::{Steps, Store, StoreFault};
 use uf_tree::{Entry, Item, Name, Pair, Pairs, Placed};
 
-// Puts the names of the shard under a CID, which has so many levels below it, after the rows.
+// Puts the names of the shard under a CID, which has n levels below it, after the rows.
 #[cycle(gathering)]
 fn gather<S: Store, L: Ledger>(
     alloc: Global,

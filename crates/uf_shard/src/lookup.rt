@@ -162,7 +162,7 @@ fn trace_placed<S: Store, N: NameHash, L: Ledger>(
     trace_in::<S, N, L>(alloc, store, 7, node, name, cids, touches)
 }
 
-// The same in the shard under a CID, which has so many levels below it, with the CIDs after others.
+// The same in the shard under a CID, which has n levels below it, with the CIDs after others.
 #[cycle(traces)]
 fn trace_from<S: Store, N: NameHash, L: Ledger>(
     alloc: Global,

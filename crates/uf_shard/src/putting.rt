@@ -135,8 +135,7 @@ fn put_placed<S: Store, N: NameHash, L: Ledger>(
     within(entry)
 }
 
-// The slots of the shard under a CID, which has so many levels below it and no metadata, after an entry is put under a
-// name.
+// The slots of the shard under a CID, which has n levels below it and no metadata, after an entry is put under a name.
 #[cycle(puts)]
 fn items_with<S: Store, N: NameHash, L: Ledger>(
     alloc: Global,
@@ -202,7 +201,7 @@ fn put_into<S: Store, N: NameHash, L: Ledger>(
     Ok(changed)
 }
 
-// What a slot of a shard with so many levels below it has, after an entry is put under a name.
+// What a slot of a shard with n levels below it has, after an entry is put under a name.
 #[cycle(puts)]
 fn item_with<S: Store, N: NameHash, L: Ledger>(
     alloc: Global,

@@ -167,7 +167,7 @@ fn left_of<S: Store, L: Ledger>(
     Ok(Removed::Left(entry))
 }
 
-// The slots of the shard under a CID, which has so many levels below it and no metadata, without a name, where that is
+// The slots of the shard under a CID, which has n levels below it and no metadata, without a name, where that is
 // there.
 #[cycle(takes)]
 fn items_without<S: Store, N: NameHash, L: Ledger>(
@@ -239,7 +239,7 @@ fn take_from<S: Store, N: NameHash, L: Ledger>(
     }
 }
 
-// What a slot of a shard with so many levels below it has without a name.
+// What a slot of a shard with n levels below it has without a name.
 #[cycle(takes)]
 fn item_without<S: Store, N: NameHash, L: Ledger>(
     alloc: Global,

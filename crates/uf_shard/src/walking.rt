@@ -13,7 +13,7 @@ use uf_cid::{Cid, StrictFault};
 use uf_store::{Role, Steps, Store, StoreFault, need};
 use uf_tree::{Item, Items, Meta, Placed, ShardNode, read_shard_node};
 
-// The slots of the shard under a CID, which has so many levels below it.
+// The slots of the shard under a CID, which has n levels below it.
 pub fn load_items<S: Store, L: Ledger>(
     alloc: Global,
     store: &mut S,
@@ -34,7 +34,7 @@ pub fn load_items<S: Store, L: Ledger>(
     }
 }
 
-// The shard of these bytes with so many levels below it.
+// The shard of these bytes with n levels below it.
 fn read_node(alloc: Global, bytes: &[u8], left: u8) -> Result<ShardNode, StrictFault>
     requires { left ≤ 7 }
     ensures { Reads (IsAbove left) shard_node_block bytes.now result }

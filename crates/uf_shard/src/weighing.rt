@@ -57,8 +57,8 @@ pub fn weight_over<S: Store, L: Ledger>(
     }
 }
 
-// Whether the shards under these CIDs, which have so many levels below them, weigh more than a room that the two
-// lightest names of each were taken from.
+// Whether the shards under these CIDs, which have n levels below them, weigh more than a room that the two lightest
+// names of each were taken from.
 fn are_over<S: Store, L: Ledger>(
     alloc: Global,
     store: &mut S,

@@ -28,8 +28,8 @@ LosesFirst told cid l = IfSome told (λ t. IsFirstLost (held_at t) cid l)
 abbrev pub LosesOne : Told → Cid → List Held → Type 0
 LosesOne told cid l = IfSome told (λ t. IsLost (held_at t) cid l)
 
--- where these blocks are held the answer is this value, else the first of them that isn't held is missing; want of
--- memory is free
+-- where these blocks are held the answer is this value, else the first of them that isn't held is missing; out of
+-- memory may come too
 abbrev pub FindsOver : {A : Type 0} → Told → List Held → A → Result A StoreFault → Type 0
 FindsOver told l value (Ok a) = (a ≡ value) × Holds told l
 FindsOver told l value (Err Failed) = ⊥

@@ -102,7 +102,7 @@ pub record PutsSave (held : Lookup) (w : Write) (ws : List Write) (saves saves_n
   pub put : saves_now ≡ saves ++ left_of held w ws
   pub are_saved : AreSaved cids (w ∷ ws)
 
--- each block that isn't kept went, and so many were these
+-- each block that isn't kept went, and n is their number
 pub record Drops (kept : List Cid) (n : ℕ) (before now : Seen) : Type 0 where
   pub left : now.told ≡ changed (swept (is_among kept)) before.told
   pub count : IfSome before.told (λ t. len (part_of t.held (is_among kept)) + n ≡ len t.held)

@@ -17,7 +17,7 @@ pub fn bytes_of(alloc: Global, digits: &str) -> Result<Block, Memory> {
     }
 }
 
-// n bytes, each of which tells its place, but a `z` at one.
+// n bytes, each of which says its place, but a `z` at one.
 fn add_various(input: &mut Block, rest: &str) -> Result<(), Memory> {
     let (count, changed) = number_and_rest(rest);
     let changed = changed.parse::<u64>().unwrap_or(u64::MAX);
@@ -32,7 +32,7 @@ fn add_various(input: &mut Block, rest: &str) -> Result<(), Memory> {
     Ok(())
 }
 
-// So many zero bytes.
+// n zero bytes.
 fn zeros(alloc: Global, rest: &str) -> Result<Block, Memory> {
     let count = number_of(rest).min(268435457) as usize;
     let mut zeros = Block::with_capacity(alloc, count)?;
@@ -92,7 +92,7 @@ fn add_times(alloc: Global, input: &mut Block, rest: &str) -> Result<(), Memory>
     Ok(())
 }
 
-// So many zeros after the input so far.
+// n zeros after the input so far.
 fn add_zeros(alloc: Global, input: &mut Block, rest: &str) -> Result<(), Memory> {
     let more = zeros(alloc, rest)?;
     input.extend(more.as_slice())

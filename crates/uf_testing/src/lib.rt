@@ -1,5 +1,5 @@
 //! What the programs that play rows share: words, bytes that lines spell, streams in memory, hosts and stores that are
-//! set up, and the sheet on which rows are told. No other program stands on it.
+//! set up, and the sheet on which rows are reported. No other program stands on it.
 #![tactic(auto)]
 
 mod feeding;

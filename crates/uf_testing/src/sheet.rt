@@ -56,7 +56,7 @@ impl Sheet {
         self.text.extend(b"\n")
     }
 
-    /// Ends a row of this part: tells what came of it, and what was wanted where that is something else.
+    /// Ends a row of this part: reports what came of it, and what was wanted where that is something else.
     pub fn settle(&mut self, part: &str) -> Result<(), Memory> {
         if self.came.as_slice() == self.wanted.as_slice() {
             self.text.extend(self.came.as_slice())?;
@@ -78,7 +78,7 @@ impl Sheet {
     }
 }
 
-/// Reads a line of what is wanted, or ends the row before this line and tells it: whether it begins a row.
+/// Reads a line of what is wanted, or ends the row before this line and reports it: whether it begins a row.
 pub fn begins_row(part: &str, line: &str, sheet: &mut Sheet) -> Result<bool, Memory> {
     sheet.count_line();
     if line.starts_with('>') || line.starts_with('?') || line.starts_with('=') {

@@ -43,7 +43,7 @@ pub fn source(alloc: Global, bytes: &[u8], fails: Option<u64>) -> Result<MemSour
     Ok(MemSource::new(block_of(alloc, bytes)?, 65536, calls(alloc, fails)?))
 }
 
-/// An output with so much room, of which one call may fail.
+/// An output with n bytes of room, of which one call may fail.
 pub fn sink(alloc: Global, room: usize, fails: Option<u64>) -> Result<MemSink, Memory> {
     MemSink::new(alloc, room, calls(alloc, fails)?)
 }

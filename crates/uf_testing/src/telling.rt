@@ -5,7 +5,7 @@ use uf_cid::{Block, BlockHash, Memory, Sha256Hash};
 
 const DIGITS: &[u8; 16] = b"0123456789abcdef";
 
-// Of more bytes their number and their hash is told.
+// Of more bytes their number and their hash is reported.
 const MOST: usize = 4096;
 
 // A byte in hexadecimal digits.

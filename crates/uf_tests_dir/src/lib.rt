@@ -1,4 +1,4 @@
-//! Rows of the trails of names, of which no command tells, and of rules and rows of the plain tree.
+//! Rows of the trails of names, of which no command reports anything, and of rules and rows of the plain tree.
 #![tactic(auto)]
 
 #[cfg(test)]

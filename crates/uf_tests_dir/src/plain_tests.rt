@@ -1,4 +1,4 @@
-//! Rules told with their paths, and rows copied.
+//! Rules reported with their paths, and rows copied.
 use std::test::*;
 use uf_cid::{Cid, Codec, Sha256Hash};
 use uf_path::Path;
@@ -14,7 +14,7 @@ fn text_of(rule: &Rule) -> &str {
     }
 }
 
-// So many names of a path, as a rule tells them.
+// The first names of a path, as a rule reports them.
 #[test]
 fn rules_tell_their_paths(rt: HostRuntime) -> Result<(), Fail> {
     let path = Path::parse(rt.alloc(), "/a/b c/d")?;

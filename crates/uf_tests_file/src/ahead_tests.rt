@@ -64,8 +64,8 @@ impl Store for Listener {
     }
 }
 
-// Whether a reading of n bytes from an offset on tells the store of so many leaves, of which the first is the one
-// at the offset, and the next ones follow it. The file has twenty leaves of one byte each.
+// Whether a reading of n bytes from an offset on tells the store of as many leaves as are wanted, of which the first
+// is the one at the offset, and the next ones follow it. The file has twenty leaves of one byte each.
 fn tells<L: Ledger>(
     alloc: Global,
     offset: u8,

@@ -110,7 +110,7 @@ fn done<L: Ledger>(
     }
 }
 
-// How many loads are left until one fails, at most so many. A look for a block counts as a load, and reads no bytes.
+// How many loads are left until one fails, at most `most`. A look for a block counts as a load, and reads no bytes.
 fn loads_left<L: Ledger>(store: &mut FileStore, cid: &Cid, most: u64, touches: &mut Steps<L>) -> u64
     requires { most < 2 ^ 63 }
 {

@@ -1,4 +1,4 @@
-//! Rows of files that are changed, of which no command tells.
+//! Rows of files that are changed, of which no command reports anything.
 #![tactic(auto)]
 
 #[cfg(test)]

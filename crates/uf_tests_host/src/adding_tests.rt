@@ -227,7 +227,7 @@ fn failures_are_told<L: Ledger>(alloc: Global, touches: &mut Steps<L>) -> Result
     Ok(fails_at(alloc, 10, touches)?.as_str().starts_with("d/a "))
 }
 
-// What is added of so many folders, each in the one before.
+// What is added of n folders, each in the one before.
 fn nests<L: Ledger>(alloc: Global, count: usize, touches: &mut Steps<L>) -> Result<Text, Memory> {
     let mut host = MemHost::new(alloc, Calls::new(alloc));
     put_first(&mut host, "d", None)?;

@@ -61,14 +61,15 @@ with_sinks output errors s = record {
   errors = errors;
 }
 
--- the status of a line where the batch goes on was told and printed
+-- the status of a line where the batch goes on was reported and printed
 pub record MarksOn (done : Result (Unit {0}) Refusal) (given : Status) (out out_now err err_now : SinkSide)
     : Type 0 where
   pub told : TellsEnd (Said err err_now) done given
   pub goes_on : ends_batch given ≡ false
   pub marked : PrintsWhole (mark given) out out_now
 
--- the status of a line where the batch ends was told, and printed, maybe not whole; after a failed writing nothing is
+-- the status of a line where the batch ends was reported, and printed, maybe not whole; after a failed writing nothing
+-- is
 pub record MarksLast (done : Result (Unit {0}) Refusal) (given : Status) (out out_now err err_now : SinkSide)
     : Type 0 where
   pub told : TellsEnd (Said err err_now) done given
@@ -87,7 +88,7 @@ pub record MarksCut (done : Result (Unit {0}) Refusal) (given : Status) (out out
   pub cut : PrintsCut (mark was) out out_now
   pub tells : TellsWhy (Said between err_now) refusal.Write given
 
--- how a line that was done is told and marked, and whether the batch ends with it
+-- how a line that was done is reported and marked, and whether the batch ends with it
 abbrev pub ClosesLine : Result (Unit {0}) Refusal → Option Status → SinkSide → SinkSide → SinkSide → SinkSide → Type 0
 ClosesLine done None out out_now err err_now = (given : Status) × MarksOn done given out out_now err err_now
 ClosesLine done (Some given) out out_now err err_now =
@@ -108,7 +109,7 @@ module _ (X : List ℕ → List ℕ) (N : List ℕ → ℕ) where
   LineServed told None before now = (told ≡ None) × (now ≡ before)
   LineServed told (Some done) before now = ServesLine told done before now
 
-  -- a line was done as a command, with this status, and its error line was told
+  -- a line was done as a command, with this status, and its error line was reported
   pub record LineDone (line : List ℕ) (given : Status) (before now : Scene) : Type 0 where
     pub asked : Result Command Refusal
     pub asks : (line_in line ≡ Some asked) ⊎ (asked ≡ Err no_memory)

@@ -72,7 +72,7 @@ module _ (X : List ℕ → List ℕ) (N : List ℕ → ℕ) (absent : Bool) (roo
 module _ (Says : List ℕ → Type 0) (X : List ℕ → List ℕ) (N : List ℕ → ℕ) where
   pub record RunsCheck (absent : Bool) (root : Cid) (names : List (List ℕ)) (given : Status) (before now : Around)
       : Type 0 where
-    -- how the check ended, which the status and the line tell
+    -- how the check ended, which the status and the line report
     pub done : Result (Unit {0}) Refusal
     pub tells : TellsEnd Says done given
     pub checks : ChecksAndEnds X N absent root names done before.left before.reads now.reads before.held now.held

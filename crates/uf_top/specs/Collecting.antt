@@ -144,7 +144,7 @@ module _ (X : List ℕ → List ℕ) where
 -- Says holds of the line that went to `errors`
 module _ (Says : List ℕ → Type 0) (X : List ℕ → List ℕ) (N : List ℕ → ℕ) where
   pub record RunsGc (given : Status) (before now : Around) : Type 0 where
-    -- how the collection ended, which the status and the line tell
+    -- how the collection ended, which the status and the line report
     pub done : Result (Unit {0}) Refusal
     pub tells : TellsEnd Says done given
     -- what neither the Head's root nor a pin leads to went, and the number of these blocks was printed; or nothing

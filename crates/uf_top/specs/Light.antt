@@ -33,8 +33,8 @@ height_found p (Ok (File m bytes)) = file_height p m (length bytes)
 height_found p (Ok (Dir es)) = 0
 height_found p (Err why) = 0
 
--- why a light proof isn't made, or isn't accepted, of what is at these names: a rule is told with the path up to the
--- name that decides
+-- why a light proof isn't made, or isn't accepted, of what is at these names: a rule is reported with the path up to
+-- the name that decides
 abbrev pub light_refusal : List (List ℕ) → LightFault → Refusal
 light_refusal names (light.NotFound place) = refusal.Rule (rule_of names (why.NotFound (place + 1)))
 light_refusal names (light.NotADirectory place) = refusal.Rule (rule_of names (why.NotADirectory place))
@@ -58,7 +58,7 @@ IsByRule light.IsADirectory = Unit {0}
 IsByRule light.Exists = Unit {0}
 IsByRule other = ⊥
 
--- the refusal is told so, or there was no memory for the path of a rule
+-- the refusal is reported so, or there was no memory for the path of a rule
 abbrev pub IsLightTold : List (List ℕ) → LightFault → Refusal → Type 0
 IsLightTold names fault given = ((given ≡ no_memory) × IsByRule fault) ⊎ (given ≡ light_refusal names fault)
 

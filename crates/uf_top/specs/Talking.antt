@@ -25,7 +25,7 @@ use Rattle.uf_tree.specs.Standing.{Standing}
 -- Says holds of the line that went to `errors`
 module _ (Says : List ℕ → Type 0) (X : List ℕ → List ℕ) (N : List ℕ → ℕ) where
   pub record RunsPull (cid : Cid) (given : Status) (before now : Around) : Type 0 where
-    -- how the pull ended, which the status and the line tell
+    -- how the pull ended, which the status and the line report
     pub done : Result ℕ PullFault
     pub tells : TellsTalk Says (pull_end done) given
     -- over a store and an input that tell, what is due was asked for and kept, and it ended so; a failure leaves a
@@ -51,7 +51,7 @@ module _ (Says : List ℕ → Type 0) (X : List ℕ → List ℕ) (N : List ℕ 
     pub host : now.host ≡ before.host
 
   pub record RunsServe (given : Status) (before now : Around) : Type 0 where
-    -- how the answering ended, which the status and the line tell
+    -- how the answering ended, which the status and the line report
     pub done : Result ℕ ServeFault
     pub tells : TellsTalk Says (serve_end done) given
     -- over a store and an input that tell, a frame was written for each block that is asked for, and it ended as the

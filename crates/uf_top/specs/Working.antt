@@ -96,9 +96,9 @@ module _ (X : List ℕ → List ℕ) (N : List ℕ → ℕ) where
     pub idle : (p : Profile) (es : Entries) (bytes : List ℕ) → NamesOver X N before p es → calm bytes
         → is_idle bytes es command ≡ true → now ≡ before
 
-  -- how a command was done and its text printed: its answer is the reply, over lost blocks too, what is printed begins
-  -- the reply's text, the reply's tree stands where its rows follow the Head and only they failed, each refusal is one
-  -- of its kinds and has its cause, it keeps within its touches, and it leaves what it leaves
+  -- how a command was done and its text printed: its answer is the reply, over lost blocks too, what is printed is a
+  -- prefix of the reply's text, the reply's tree stands where its rows follow the Head and only they failed, each
+  -- refusal is one of its kinds and has its cause, it keeps within its touches, and it leaves what it leaves
   pub record Does (command : Command) (done : Result (Unit {0}) Refusal) (before now : Around) : Type 0 where
     pub answers : (w : World) → FindsWorld X N (Ok command) before.store.told w
         → HasOutside (Ok command) (outside_of w) before now → StaysQuiet (Ok command) (ended done) before now

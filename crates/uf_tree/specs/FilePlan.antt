@@ -17,7 +17,7 @@ pub record Plan : Type 0 where
   pub entry : Entry
   pub blocks : List Held
 
--- the first group of a list, which has room for so many more, and the groups of width after it
+-- the first group of a list, which has room for n more, and the groups of width after it
 abbrev pub split_from : {A : Type 0} → ℕ → ℕ → List A → List A × List (List A)
 split_from width room [] = ([], [])
 split_from width zero (x ∷ xs) = let rest = split_from width (pred width) xs in ([], (x ∷ rest.0) ∷ rest.1)

@@ -25,13 +25,13 @@ unfoldable pub line_at : List ℕ → Option (List ℕ × List ℕ)
 line_at [] = None
 line_at (b ∷ bytes) = if b == 10 then Some ([], bytes) else option_map (λ x. (b ∷ x.0, x.1)) (line_at bytes)
 
--- what stands after a word in front
+-- what stands after a first word
 unfoldable pub behind : List ℕ → List ℕ → Option (List ℕ)
 behind [] bytes = Some bytes
 behind (w ∷ word) [] = None
 behind (w ∷ word) (b ∷ bytes) = if w == b then behind word bytes else None
 
--- a line with its word in front: what stands after the word, and the bytes after the line
+-- a line that starts with its word: what stands after the word, and the bytes after the line
 abbrev pub worded_at : List ℕ → List ℕ → Option (List ℕ × List ℕ)
 worded_at word bytes = option_and_then (λ l. option_map (λ text. (text, l.1)) (behind word l.0)) (line_at bytes)
 

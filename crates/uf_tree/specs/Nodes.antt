@@ -107,12 +107,12 @@ slot_bit slots i = if list_any (λ s. s == i) slots then 2 ^ (i % 8) else 0
 abbrev pub bitfield_byte : List ℕ → ℕ → ℕ
 bitfield_byte slots n = sum_by (slot_bit slots) (range_with_len (8 * n) 8)
 
--- a list without the zeros in front
+-- a list without its leading zeros
 abbrev pub without_zeros : List ℕ → List ℕ
 without_zeros [] = []
 without_zeros (b ∷ bs) = if b == 0 then without_zeros bs else b ∷ bs
 
--- the bitfield of 256 slots, without the zero bytes in front
+-- the bitfield of 256 slots, without leading zero bytes
 unfoldable pub bitfield : List ℕ → List ℕ
 bitfield slots = without_zeros (map (λ k. bitfield_byte slots (31 - k)) (range_with_len 0 32))
 

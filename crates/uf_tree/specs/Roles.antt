@@ -75,7 +75,7 @@ pub record IsCanonicalShard (N : List ℕ → ℕ) (way : List ℕ) (bytes : Lis
   pub on_way : AllByRecursion (IsOnWay N way) items
   pub is : bytes ≡ shard_block meta items
 
--- where a node of a file is: at the root, or below so many nodes, with the size that the node above declares, in a
+-- where a node of a file is: at the root, or below this many nodes, with the size that the node above declares, in a
 -- file of n bytes
 pub data FilePlace : Type 0 where
   Root : FilePlace

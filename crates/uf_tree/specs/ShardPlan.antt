@@ -17,12 +17,12 @@ use Rattle.uf_tree.specs.Metas.{none}
 use Rattle.uf_tree.specs.Names.{names_cmp}
 use Rattle.uf_tree.specs.Nodes.{Named, InSlot, node_entry, item_entry, shard_block}
 
--- what f gives at each of so many numbers from a on, where it gives something
+-- what f gives at each of the n numbers from a on, where it gives something
 unfoldable pub tabulate : {A : Type 0} → ℕ → ℕ → (ℕ → Option A) → List (ℕ × A)
 tabulate zero a f = []
 tabulate (suc n) a f = cons_option (option_map (λ x. (a, x)) (f a)) (tabulate n (suc a) f)
 
--- what f gives at each of so many numbers from a on, one after the other
+-- what f gives at each of the n numbers from a on, one after the other
 unfoldable pub flat_tabulate : {A : Type 0} → ℕ → ℕ → (ℕ → List A) → List A
 flat_tabulate zero a f = []
 flat_tabulate (suc n) a f = f a ++ flat_tabulate n (suc a) f
@@ -63,7 +63,7 @@ module _ (N : List ℕ → ℕ) where
   abbrev pub shard_below : (List Named → Plan) → ℕ → List Named → List Held
   shard_below deeper k l = flat_tabulate 256 0 (λ s. slot_blocks deeper (bucket k s l))
 
-  -- two names have the same slots from the level with so many below it to level 7
+  -- two names have the same slots from the level with n below it to level 7
   abbrev pub same_slots : ℕ → List ℕ → List ℕ → Bool
   same_slots zero a b = slot (N a) 7 == slot (N b) 7
   same_slots (suc left) a b = (slot (N a) (6 - left) == slot (N b) (6 - left)) && same_slots left a b
@@ -88,7 +88,7 @@ module _ (X : List ℕ → List ℕ) (N : List ℕ → ℕ) where
   abbrev pub no_shard : List Named → Plan
   no_shard l = record { entry = node_entry X [] []; blocks = [] }
 
-  -- the shard that has so many levels below it: level 7 has none, level 0 has 7; the shards below it have no metadata
+  -- the shard that has n levels below it: level 7 has none, level 0 has 7; the shards below it have no metadata
   unfoldable pub shard : ℕ → Meta → List Named → Plan
   unfolding tabulate flat_tabulate
   shard zero m l = shard_at no_shard 7 m l

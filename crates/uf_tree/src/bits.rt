@@ -9,7 +9,7 @@ use crate::Placed;
 use std::alloc::Global;
 use uf_cid::{Block, Memory};
 
-// The bitfield of the slots of items: of each slot one bit, without zero bytes in front.
+// The bitfield of the slots of items: of each slot one bit, without leading zero bytes.
 pub fn bitfield(alloc: Global, items: &[Placed]) -> Result<Block, Memory>
     ensures { IfOk result (λ b. b ≡ the_bitfield (map (λ (p : InSlot). p.0) items.now)) }
 {

@@ -157,7 +157,7 @@ fn line(bytes: &[u8]) -> Option<(&[u8], &[u8])>
     None
 }
 
-// What stands after a word in front.
+// What stands after a first word.
 fn behind<'a>(word: &[u8], bytes: &'a [u8]) -> Option<&'a [u8]>
     ensures { option_copied result ≡ behind_word word.now bytes.now }
 {

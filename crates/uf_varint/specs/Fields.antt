@@ -83,7 +83,7 @@ abbrev pub key_then : (List ℕ → List Field) → Result (ℕ × List ℕ) Cut
 key_then later (Ok n) = field_then n.0 later (content_at (n.0 % 8) n.1)
 key_then later (Err f) = NoKey f ∷ []
 
--- at most so many fields
+-- at most n fields
 unfoldable pub fields_within : ℕ → List ℕ → List Field
 fields_within zero bytes = []
 fields_within (suc n) [] = []

@@ -21,7 +21,7 @@ with_low b (Value high used) = Value (b - 128 + 128 * high) (used + 1)
 with_low b Short = Short
 with_low b Bad = Bad
 
--- what is spelled in at most room + 1 bytes, where the last of so many is 0 or 1
+-- what is spelled in at most room + 1 bytes, where the last one of them is 0 or 1
 unfoldable pub proto_within : ℕ → List ℕ → Var
 proto_within room [] = Short
 proto_within zero (b ∷ bs) = if nat_le b 1 then Value b 1 else Bad
@@ -49,7 +49,7 @@ read_multi_of (b ∷ bs) = if nat_lt b 128 then Value b 1 else with_low b (multi
 abbrev pub AreHigh : List ℕ → Type 0
 AreHigh bytes = AllByRecursion (λ b. 128 ≤ b) bytes
 
--- a spelling has a byte or more, and at most so many
+-- a spelling has a byte or more, and at most n
 abbrev pub IsWithin : Var → ℕ → Type 0
 IsWithin (Value n used) most = (0 < used) × (used ≤ most)
 IsWithin Short most = Unit {0}

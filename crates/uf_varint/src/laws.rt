@@ -15,7 +15,7 @@ pub fn what_was_written_is_read()
         ≡ Value n (length (varint n)) }
 {}
 
-/// No spelling begins another of a different number: what stands after a spelling doesn't matter.
+/// No spelling is a prefix of another of a different number: what stands after a spelling doesn't matter.
 pub fn spellings_end_themselves()
     ensures proto { (bytes rest : List ℕ) (n used : ℕ) → read_proto_of bytes ≡ Value n used
         → read_proto_of (take used bytes ++ rest) ≡ Value n used }

@@ -74,7 +74,7 @@ pub fn read_proto(bytes: &[u8]) -> Var
     Var::Value(value + byte * scale, 10)
 }
 
-/// Writes the shortest spelling of a number in front, leaves the bytes after it, and answers its length.
+/// Writes the shortest spelling of a number at the start, leaves the bytes after it, and answers its length.
 pub fn write(value: u64, out: &mut [u8; 10]) -> usize
     ensures spelled { out.new ≡ varint value ++ drop result out.old }
     ensures len { result ≡ length (varint value) }
@@ -97,7 +97,7 @@ pub fn width(value: u64) -> usize
     10
 }
 
-// Writes the shortest spelling of a number in front, and answers its length.
+// Writes the shortest spelling of a number at the start, and answers its length.
 pub fn put(value: u64, out: &mut [u8]) -> usize
     requires { 10 ≤ length out.old }
     ensures spelled { out.new ≡ varint value ++ drop result out.old }

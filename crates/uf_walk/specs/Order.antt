@@ -62,13 +62,13 @@ abbrev pub then_follow : (List Cid → Course) → Cid → List Cid → Option (
 then_follow visit c ahead None = StopsAt c
 then_follow visit c ahead (Some links) = visit (links ++ ahead)
 
--- a walk that has met some CIDs, may meet so many more, and has these ahead
+-- a walk that has met some CIDs, may meet n more, and has these ahead
 unfoldable pub visit : Follow → ℕ → List Cid → List Cid → Course
 visit follow zero met ahead = skip (λ c rest. TooMany) met ahead
 visit follow (suc more) met ahead =
     skip (λ c rest. then_follow (visit follow more (met ++ c ∷ [])) c rest (follow c)) met ahead
 
--- a walk from some roots in turn that may meet so many CIDs
+-- a walk from some roots in turn that may meet n CIDs
 abbrev pub goes : Follow → ℕ → List Cid → Course
 goes follow most roots = visit follow most [] roots
 
@@ -107,6 +107,6 @@ ordered held (Whole met) = Ok met
 ordered held TooMany = Err OverMost
 ordered held (StopsAt c) = Err (stop_at c (held c))
 
--- the CIDs below a root and itself in first-visit depth-first order, at most so many, or the first fault in that order
+-- the CIDs below a root and itself in first-visit depth-first order, at most n, or the first fault in that order
 abbrev pub order : Lookup → ℕ → Cid → Result (List Cid) OrderFault
 order held most root = ordered held (goes (follow_held held) most (root ∷ []))

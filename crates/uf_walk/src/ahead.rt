@@ -90,7 +90,7 @@ impl Frontier {
         self.top.as_slice()
     }
 
-    /// Takes so many CIDs away from the front.
+    /// Takes the first n CIDs away.
     pub fn take_away(&mut self, count: usize)
         ensures { self.new ≡ drop count self.old }
     {

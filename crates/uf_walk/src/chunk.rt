@@ -60,7 +60,7 @@ impl Chunk {
         self.items.is_empty()
     }
 
-    /// Puts a CID in front.
+    /// Puts a CID first.
     pub fn push(&mut self, cid: Cid) -> Result<(), Memory>
         ensures ok { OnOk result (self.new ≡ cid ∷ self.old) }
         ensures err { OnErr result (self.new ≡ self.old) }

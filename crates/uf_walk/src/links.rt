@@ -13,7 +13,7 @@ use std::alloc::Global;
 use uf_cid::{Cid, Codec, Memory};
 use uf_dagpb::{Link, PbFault, decode_lenient};
 
-// Puts the CIDs of links in front, the first link first.
+// Puts the CIDs of links before the others, the first link first.
 pub fn put_in_front(ahead: &mut Frontier, links: &[Link]) -> Result<(), Memory>
     ensures ok { OnOk result (ahead.new ≡ map (λ l. l.cid) links.now ++ ahead.old) }
     ensures err { OnErr result (ahead.new ≡ ahead.old) }
@@ -47,7 +47,7 @@ pub fn number_of(fault: PbFault) -> u8
     }
 }
 
-// Puts the links of a block in front: none where it is raw.
+// Puts the links of a block before the others: none where it is raw.
 pub fn links_ahead(
     alloc: Global,
     cid: &Cid,
@@ -62,7 +62,7 @@ pub fn links_ahead(
     }
 }
 
-// Puts the links of a node in front.
+// Puts the links of a node before the others.
 fn node_ahead(alloc: Global, cid: &Cid, bytes: &[u8], ahead: &mut Frontier) -> Result<(), WalkFault>
     ensures { LinksAhead cid.now (linked (node_reads bytes.now)) result ahead.old ahead.new }
 {

@@ -42,7 +42,7 @@ impl Walk {
     ghost use Rattle.std.specs.Prelude.{take};
     ghost use Rattle.std.proofs.Common.{reverse};
 
-    /// A walk that may hand out so many CIDs, with no root.
+    /// A walk that may hand out n CIDs, with no root.
     pub fn new(alloc: Global, most: u32) -> Walk
         ensures most { result.most ≡ most }
         ensures handed { result.handed ≡ [] }

@@ -127,7 +127,7 @@ fn serve_line<S: Store, N: NameHash, W: Host, O: Sink, L: Ledger>(
     }
 }
 
-// Tells how a line's command ended, and prints its status. The answer comes where the batch ends with it.
+// Reports how a line's command ended, and prints its status. The answer comes where the batch ends with it.
 fn close_line<O: Sink, E: Sink>(
     alloc: Global,
     done: Result<(), Refusal>,

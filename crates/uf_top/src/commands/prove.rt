@@ -104,7 +104,7 @@ fn refusal(alloc: Global, names: &[Name], fault: LightFault) -> Refusal
     }
 }
 
-// The refusal by a rule that is told with the path up to the name that decides, or out of memory.
+// The refusal by a rule that is reported with the path up to the name that decides, or out of memory.
 fn by_rule(alloc: Global, names: &[Name], why: Refused) -> Refusal
     ensures { (result ≡ no_memory) ⊎ (result ≡ refusals.Rule (rule_of names.now why)) }
 {

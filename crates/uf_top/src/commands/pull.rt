@@ -17,7 +17,7 @@ const MOST_PULLED: u32 = 16777216;
 // The most bytes of a peer's lines that are read.
 const MOST_OF_WANTS: u64 = 1073741824;
 
-// Fetches what is below a CID from the peer, and tells how that ended.
+// Fetches what is below a CID from the peer, and reports how that ended.
 pub fn pull_from<S: Store, I: Source, O: Sink, E: Sink, L: Ledger>(
     alloc: Global,
     cid: &Cid,
@@ -35,7 +35,7 @@ pub fn pull_from<S: Store, I: Source, O: Sink, E: Sink, L: Ledger>(
     tell_talk(alloc, pull_end(done), errors)
 }
 
-// Answers the lines of the peer, and tells how that ended.
+// Answers the lines of the peer, and reports how that ended.
 pub fn serve_wants<S: Store, I: Source, O: Sink, E: Sink, L: Ledger>(
     alloc: Global,
     store: &mut S,
