@@ -65,7 +65,8 @@ SavesUpTo X p bytes begun rows touches touches_now =
     ≤ touches + length (file_plan X p none (front ++ bytes)).blocks
 
 -- nothing was written but blocks of the plan of each file that begins with these bytes, whatever comes after them and
--- whatever its metadata: the blocks of their whole pieces, and the nodes over whole groups that do not end the file
+-- whatever its metadata. These are the blocks of their whole pieces, and the nodes over whole groups that do not end
+-- the file
 abbrev pub SavesForFront : (List ℕ → List ℕ) → Profile → List ℕ → Told → Told → Type 0
 SavesForFront X p bytes told told_now = (meta : Meta) (behind : List ℕ)
     → SavesAmong X (file_plan X p meta (bytes ++ behind)).blocks told told_now

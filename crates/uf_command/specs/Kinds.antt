@@ -10,7 +10,7 @@ use Rattle.uf_store.specs.declared.store.StoreFault.TheVariants as fault
 use Rattle.uf_command.specs.declared.types.Refusal.{Refusal}
 use Rattle.uf_command.specs.declared.types.Refusal.TheVariants as refusal
 
--- the kinds of refusals: a damaged block is a failure of the store, the sections of a CAR may lack a block, blocks may
+-- the kinds of refusals. A damaged block is a failure of the store, the sections of a CAR may lack a block, blocks may
 -- clash in a store of the command's own, and the note of pins may be none that is read
 pub data RefusalKind : Type 0 where
   OfRule OfDag OfHost OfPath OfLongInput OfUsage OfReady OfRead OfWrite OfFailure OfMissing OfBadBlock OfClash OfMemory

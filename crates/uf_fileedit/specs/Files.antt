@@ -114,7 +114,7 @@ module _ (X : List ℕ → List ℕ) (p : Profile) (entry : Entry) where
       CostsEdited seen (λ b. size) (λ b. cut_chunks p.chunk (length b) size) before now
 
   -- where the store agrees with the file's blocks before and after, after Ok the entry is that of the file of the
-  -- changed bytes, and each block of it is held or an old one; over a calm store a fault is that an old one is lost
+  -- changed bytes, and each block of it is held or an old one. Over a calm store a fault is that an old one is lost
   abbrev pub GivesEdited : (List ℕ → List ℕ) → Seen → Seen → Result Entry StoreFault → Type 0
   GivesEdited change before now answer = OfFile (λ m b.
       Agrees before.told (file_plan X p m b).blocks → Agrees now.told (file_plan X p m b).blocks

@@ -52,8 +52,8 @@ pub record IsLaidOut (p : Profile) (codec : Codec) (root : NodeParts) : Type 0 w
       && are_planned (span p.chunk p.width below) below (bytes_over root.parts) root.parts)
 
 -- where the bytes of a file stand that has `old` bytes and gets `size` ones: its rows of nodes, the greatest height of
--- an old part, the height of the parts below the new root, and how many of the old bytes a part of that root's height
--- has room for
+-- an old part, and the height of the parts below the new root. Also how many of the old bytes a part of that root's
+-- height has room for
 pub record AreHeights (p : Profile) (old size : ℕ) (at : Heights) : Type 0 where
   pub before : IsHeight p.chunk p.width old at.rows
   pub top_is : at.top ≡ max at.rows 1

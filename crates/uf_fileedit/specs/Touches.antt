@@ -62,7 +62,7 @@ IsLeft top height size None = ⊥
 IsLeft top height size (Some part) = (height ≤ top) × (part.size ≡ size)
 
 -- an edit of a file that had `old` bytes and has `size` ones lies within the chunks of c bytes from number a up to
--- number z: what is laid over does, and where the length changes all from the old end or the new one on
+-- number z. What is laid over does, and where the length changes all from the old end or the new one on
 pub record IsEditWithin (c old size offset more a z : ℕ) : Type 0 where
   pub laid : 1 ≤ more → (a * c ≤ offset) × (offset + more ≤ z * c)
   pub ends : old ≢ size → (a * c ≤ min old size - 1) × (size ≤ z * c) × (a < z)

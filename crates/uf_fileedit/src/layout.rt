@@ -7,8 +7,8 @@ ghost use Rattle.uf_fileedit.specs.Planned.{AreHeights, are_planned as planned_o
 use uf_cid::Codec;
 use uf_tree::{Part, Profile};
 
-// Where a part is made: the profile, how many rows of nodes the old file has, how high an old part stands at most, the
-// height of the part, and a whole piece of zeros that is saved already, where there is one.
+// Where a part is made: the profile, how many rows of nodes the old file has, how high an old part stands at most, and
+// the height of the part. Also a whole piece of zeros that is saved already, where there is one.
 #[derive(Clone, Copy)]
 pub struct Layer {
     pub p: Profile,
@@ -19,8 +19,8 @@ pub struct Layer {
 }
 
 // Where the bytes of a changed file stand: how many rows of nodes the old file has, how high an old part stands at
-// most, how high the parts below the new root are, and how many of the old bytes a part as high as that root has room
-// for.
+// most, and how high the parts below the new root are. Also how many of the old bytes a part as high as that root has
+// room for.
 #[derive(Clone, Copy)]
 pub struct Heights {
     pub rows: u8,

@@ -49,8 +49,8 @@ abbrev pub pieces_met : ℕ → ℕ → ℕ → List ℕ → ℕ
 pieces_met c offset count bytes = met_among offset count (groups c bytes)
 
 -- the blocks that are needed to read a range of the part of this height over these bytes, whose node carries this
--- metadata: its own, and below it those that the range meets, each node before its links and the links from left to
--- right
+-- metadata. They are its own, and below it those that the range meets, each node before its links and the links from
+-- left to right
 unfoldable pub blocks_read : (List ℕ → List ℕ) → ℕ → ℕ → Meta → ℕ → ℕ → ℕ → List ℕ → List Held
 blocks_read X c w meta zero offset count bytes = leaf_held X bytes ∷ []
 blocks_read X c w meta (suc k) offset count bytes =

@@ -28,7 +28,7 @@ use Rattle.uf_tree.specs.TreePlan.{blocks}
 use Rattle.uf_headline.specs.History.{DidRun, InTurn, Step, told_after, told_before}
 use Rattle.uf_headline.specs.Replies.{replied_by}
 
--- the input, the host and the note of pins tell what is said of them, where the command uses them, and no count that a
+-- the input, the host and the note of pins tell what is said of them, where the command uses them. No count that a
 -- failure raises is at its last value, 2^64 - 1, at which it would hide one
 pub record CanTell (asked : Result Command Refusal) (outside : Outside) (before : Around) : Type 0 where
   pub store : CountsCanRise before.store

@@ -13,9 +13,10 @@ ghost use Rattle.uf_headline.specs.Batched.{AreCallsOf, AreOfLines, with_last};
 ghost use Rattle.uf_headline.specs.Calls.{Calls};
 ghost use Rattle.uf_headline.specs.History.{History, Step};
 
-/// A batch, over a store that stands for a tree (or has no Head, or one that isn't read) and a host that tells, is a
-/// history, where nothing of the store, the output or the host failed, no clash was met, and it doesn't run out of
-/// memory: a step for each line that has a word, that of the line which ended it too, each with no input.
+/// Take a batch over a store that stands for a tree (or has no Head, or one that isn't read) and a host that tells. It
+/// is a history, where nothing of the store, the output or the host failed, no clash was met, and it doesn't run out
+/// of memory. The history has a step for each line that has a word, that of the line which ended it too, each with no
+/// input.
 pub fn a_batch_is_a_history()
     ensures { (X : List ℕ → List ℕ) (N : List ℕ → ℕ) (host : HostTree) (most limit : ℕ) (given : TheStatus)
         (before now : Scene) (standing : Standing) → (did : Batches X N most limit given before now)
@@ -26,8 +27,8 @@ pub fn a_batch_is_a_history()
 {}
 
 /// A batch, whatever its lines do and however it ends, over a store and a host that tell and with no count of
-/// failures at its last value, is a list of calls: one for each line that has a word, that of the line which ended it
-/// too, each with no input.
+/// failures at its last value, is a list of calls. There is one for each line that has a word, that of the line which
+/// ended it too, each with no input.
 pub fn a_batch_is_a_list_of_calls()
     ensures { (X : List ℕ → List ℕ) (N : List ℕ → ℕ) (host : HostTree) (most limit : ℕ) (given : TheStatus)
         (before now : Scene) → (did : Batches X N most limit given before now)

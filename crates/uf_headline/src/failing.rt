@@ -14,7 +14,7 @@ ghost use Rattle.uf_headline.specs.History.{Step};
 ghost use Rattle.uf_headline.specs.Replies.{standing_replied};
 
 /// Calls one after the other, whatever they answer and whatever fails, over a store that stands for a tree, or has no
-/// Head or a bad one: it then stands for what those of them that were done make of the plain tree. No count of
+/// Head or a bad one. It then stands for what those of them that were done make of the plain tree. No count of
 /// failures is at its last value before a call, since it would hide one there, and a failed call could pass for one
 /// that was done.
 pub fn what_fails_leaves_the_tree()
@@ -35,7 +35,7 @@ pub fn what_is_lost_leaves_the_tree_named()
 {}
 
 /// Calls one after the other, of which any may fail, or be stopped after any of its writes, over a store that is
-/// safe for a tree, as it is after `init`: it is then safe for what those that were done make of the tree. One that
+/// safe for a tree, as it is after `init`. It is then safe for what those that were done make of the tree. One that
 /// was stopped was done, or has left the tree as it was. The store tells what was written to it: a stop may take
 /// any block that was saved after the last sync, so of a tree whose blocks no sync has made firm nothing can be
 /// said.
@@ -46,7 +46,7 @@ pub fn what_is_stopped_is_done_or_not()
         → (steps : List Step) × AreDone events steps × IsSafeAs X N now (standing_replied X N steps (Stands p es)) }
 {}
 
-/// What the store's own words say that a stop leaves, the writes that survive and one sync, is a store that is
+/// What the store's own words say that a stop leaves is the writes that survive and one sync. That is a store that is
 /// opened again as the law above has it, where the saves of one CID gave it the same bytes.
 pub fn what_a_stop_leaves_is_opened()
     ensures { (lost : List ℕ) (writes : List TheWrite) → SavesAgree writes

@@ -32,7 +32,7 @@ pub use roots::{a_history_ran_well, roots_are_of_trees_alone, roots_are_those_of
 pub use steps::run_a_step;
 
 /// Commands given in turn, each answered as `run` says, over a store that stands for a tree, or has no Head or a bad
-/// one, where nothing failed, no clash was met and it wasn't out of memory: the store then stands for what those that
+/// one, where nothing failed, no clash was met and it wasn't out of memory. The store then stands for what those that
 /// were done make of the plain tree.
 pub fn a_history_gives_its_tree()
     ensures { (X : List ℕ → List ℕ) (N : List ℕ → ℕ) (steps : List Step) (before now : Told) (standing : Standing)
@@ -53,9 +53,9 @@ pub fn same_names_and_bytes_have_one_root()
         → IsHeadNote (head_in b) p (entry X N p (Dir es)).cid }
 {}
 
-/// Where a history makes a tree, and a folder of a host has the same names and bytes, `add -r -n` of that folder,
-/// over a store whose Head has the same profile, or one with no Head where that profile is the usual one, prints last
-/// the CID that is in the history's Head.
+/// A history makes a tree, and a folder of a host has the same names and bytes. Then `add -r -n` of that folder prints
+/// last the CID that is in the history's Head. The store's Head has the same profile, or there is none and that
+/// profile is the usual one.
 pub fn a_tree_added_afresh_has_its_root()
     ensures { (X : List ℕ → List ℕ) (N : List ℕ → ℕ) (steps : List Step) (a b : Told) (first : Standing) (p : Profile)
         (es : Entries) (fresh : Step) (standing : Standing) (path : List ℕ)

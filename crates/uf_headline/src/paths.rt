@@ -11,7 +11,7 @@ ghost use Rattle.uf_tree.specs.declared.profile.Profile.{Profile};
 ghost use Rattle.uf_headline.specs.History.{AddsAfresh, Makes, PrintsFirst, PrintsLast, StatsAt, Step};
 
 /// After a history, `files stat` of a path prints first the CID of importing what is below it afresh: that of the plan
-/// of the file or folder that the same commands make at this path of the plain tree; and `add -n` of a host's file or
+/// of the file or folder that the same commands make at this path of the plain tree. `add -n` of a host's file or
 /// folder with the same names and bytes prints it last, by the same profile.
 pub fn each_path_has_the_cid_of_its_tree()
     ensures plan { (X : List ℕ → List ℕ) (N : List ℕ → ℕ) (steps : List Step) (a b : Told) (first : Standing)

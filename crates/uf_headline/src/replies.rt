@@ -6,7 +6,7 @@ ghost use Rattle.uf_tree.specs.Standing.{Standing};
 ghost use Rattle.uf_headline.specs.History.{History, Step};
 ghost use Rattle.uf_headline.specs.Replies.{standing_replied};
 
-/// A history whose commands are judged by the plain tree alone, those that a rule refuses among them: over a store
+/// A history whose commands are judged by the plain tree alone, those that a rule refuses among them. Over a store
 /// that stands for a tree, or has no Head or a bad one, it leaves what the plain tree's replies to the same commands
 /// make.
 pub fn a_history_makes_what_its_replies_say()

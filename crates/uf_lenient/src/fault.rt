@@ -6,9 +6,9 @@ use uf_tree::Name;
 /// Why what a CID names can't be read.
 #[derive(Drop)]
 pub enum DagFault {
-    /// The block is none of UnixFS: 1 to 7 it is no DAG-PB node (the number of the `PbFault`), 9 it has no content, 11
-    /// to 16 the content is no message (10 more than the number of the `MsgFault`), 20 it is of a kind that may not
-    /// stand where it is linked, 21 a link of a shard is not named by a slot.
+    /// The block is none of UnixFS. 1 to 7: it is no DAG-PB node (the number of the `PbFault`). 9: it has no content.
+    /// 11 to 16: the content is no message (10 more than the number of the `MsgFault`). 20: it is of a kind that may
+    /// not stand where it is linked. 21: a link of a shard is not named by a slot.
     NotUnixfs(Cid, u8),
     /// A directory has a name twice; the block links the later one.
     DuplicateName(Cid, Name),

@@ -76,7 +76,7 @@ pub fn a_tree_is_read_step_by_step()
 {}
 
 /// Calls of `Pieces::next` give one file, where each of their stores holds the same under each CID that the reading of
-/// the file visits: their pieces are a prefix of it, and the next such call ends it or says its fault. Where the file
+/// the file visits. Their pieces are a prefix of it, and the next such call ends it or says its fault. Where the file
 /// has bytes, a store that holds all that the first one held is such a store.
 pub fn pieces_are_of_one_file()
     ensures front { (held : Held) (limits : Limits) (c : Cid) (calls : List (Held × List ℕ)) (now : Rest)
@@ -91,7 +91,7 @@ pub fn pieces_are_of_one_file()
         → file_of held limits c ≡ Ok bytes → HoldsAllOf held more → AgreeUnder held more (file_visits held limits c) }
 {}
 
-/// What is read below a CID depends on nothing but the blocks to which links lead from it: where two maps hold the
+/// What is read below a CID depends on nothing but the blocks to which links lead from it. Where two maps hold the
 /// same under a list of CIDs that no link leaves, each reading that begins in the list answers the same of both, value
 /// or fault.
 pub fn a_reading_follows_links_alone()
@@ -104,7 +104,7 @@ pub fn a_reading_follows_links_alone()
         (λ held limits c. resolve_from held limits place names c) }
 {}
 
-/// A plan's blocks are just those to which links lead from its root: its root is one of them, each link of each leads
+/// A plan's blocks are just those to which links lead from its root. Its root is one of them, each link of each leads
 /// to one of them again, and all of them are held wherever the same is held under all to which links lead.
 pub fn a_plan_is_where_links_lead()
     ensures rooted { OfHeldPlan (λ X N p t held. Contains (block_cids (blocks X N p t)) (entry X N p t).cid) }

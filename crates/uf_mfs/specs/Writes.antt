@@ -110,7 +110,7 @@ changed_chunks p (Write how) piece bytes = written_chunks p.chunk (length bytes)
 changed_chunks p (Truncate size) piece bytes = cut_chunks p.chunk (length bytes) size
 
 -- how often an edit of a file of this metadata and these bytes touches the store at most, by the chunks that it changes
--- and the rows of the old or the new file, the greater; not at all where the new one is too long
+-- and the rows of the old or the new file, the greater. Not at all where the new one is too long
 abbrev pub rewriting_touches : Profile → (ℕ → ℕ) → FileEdit → List ℕ → Meta → List ℕ → ℕ
 rewriting_touches p rows what piece m bytes =
     let new = length (rewritten what piece bytes) in

@@ -35,8 +35,8 @@ impl Copied for Row {
     }
 }
 
-/// What is said of a file or a directory: its CID, the bytes of a file (0 of a directory), its Tsize, the number of
-/// links of its root block (0 of a raw block), whether it is a directory, and its metadata.
+/// What is said of a file or a directory: its CID, the bytes of a file (0 of a directory) and its Tsize. Then the
+/// number of links of its root block (0 of a raw block), whether it is a directory, and its metadata.
 #[derive(Clone, Copy, Debug, PartialEq, Eq)]
 pub struct Stat {
     pub cid: Cid,

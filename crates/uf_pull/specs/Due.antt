@@ -47,8 +47,8 @@ answer_to hash c more (Next place (Giving d block) rest) =
 
 -- ---- all of them
 
--- what is asked for, the blocks that answer, how it ends, whole or refused, and how many bytes of the input are used:
--- all up to the end of the last frame that answers, says that its block is lacking, or is dropped
+-- what is asked for, the blocks that answer, how it ends, whole or refused, and how many bytes of the input are used.
+-- These are all up to the end of the last frame that answers, says that its block is lacking, or is dropped
 pub record Due : Type 0 where
   pub wants : List Cid
   pub blocks : List Held

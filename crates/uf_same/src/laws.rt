@@ -38,8 +38,8 @@ pub fn equal_means_the_same_readings()
         → resolve_from left limits place names a ≡ resolve_from right limits place names a }
 {}
 
-/// Where one place holds the plan of a tree and another one that of a tree, even if by another profile, and both roots
-/// have one CID, the comparison finds that the trees are one, or shows two blocks that clash: nothing is missing, and
+/// One place holds the plan of a tree and another one that of a tree, even if by another profile, and both roots have
+/// one CID. Then the comparison finds that the trees are one, or shows two blocks that clash. Nothing is missing, and
 /// each block is read. The order below the root is no longer than it may be.
 pub fn equal_roots_compare_as_one_tree()
     ensures { (X : List ℕ → List ℕ) (N : List ℕ → ℕ) (p q : Profile) (t u : Tree) (left right : Lookup) (most : ℕ)

@@ -3,8 +3,8 @@ use uf_cid::Memory;
 use uf_store::StoreFault;
 use uf_tree::Name;
 
-/// Why a directory can't be built or changed: two names of it have one 64-bit hash and it would be sharded, the least
-/// such name and the least of its twins; or its Tsize would be more than 2^62; or the store's own fault.
+/// Why a directory can't be built or changed. Either two names of it have one 64-bit hash and it would be sharded: the
+/// least such name and the least of its twins. Or its Tsize would be more than 2^62, or it is the store's own fault.
 #[derive(Drop)]
 pub enum DirFault {
     Collision(Name, Name),

@@ -1,5 +1,5 @@
 //! A directory of 500 names in shards: what a search, a trail and both in one walk answer, also where one of the
-//! blocks that decide the name is lost; and how little the removal of a name that isn't there loads.
+//! blocks that decide the name is lost. How little the removal of a name that isn't there loads.
 ghost use Rattle.std.specs.Prelude.{◌≡◌, ◌<◌, IsTrue};
 ghost use Rattle.uf_tree.specs.Profiles.{is_profile};
 

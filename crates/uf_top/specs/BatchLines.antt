@@ -52,9 +52,9 @@ module _ (X : List ℕ → List ℕ) (N : List ℕ → ℕ) where
   abbrev pub EndsAtLine : Ending X N → Status → Type 0
   EndsAtLine ending given = (line : List ℕ) × (ending ≡ AtLine line) × (ends_batch given ≡ true)
 
-  -- whatever failed in a batch is its status: a call of the store, a clash that was met (or there was no memory to say
-  -- so), a reading of its input or of the host, a writing to the host or of its output. One exception: a line that ends
-  -- the batch keeps its status where that couldn't be printed
+  -- whatever failed in a batch is its status. That is a call of the store, a clash that was met (or there was no
+  -- memory to say so), a reading of its input or of the host, a writing to the host or of its output. One exception: a
+  -- line that ends the batch keeps its status where that couldn't be printed
   pub record PassesNoneOver (ending : Ending X N) (given : Status) (before now : Around) : Type 0 where
     pub failed : before.store.faults < now.store.faults → given ≡ status.StoreFault
     pub clashed : before.store.clashes < now.store.clashes → (given ≡ status.Clash) ⊎ (given ≡ status.Memory)

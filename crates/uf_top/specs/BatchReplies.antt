@@ -65,7 +65,7 @@ module _ (X : List ℕ → List ℕ) (N : List ℕ → ℕ) where
 
   module _ (host : HostTree) where
     -- a line was answered: over what the store stood for and held where it began, it ended as the reply to what it asks
-    -- for, or is out of memory, and printed no more than the reply's text; the store stands for what the reply says,
+    -- for, or is out of memory, and printed no more than the reply's text. The store stands for what the reply says,
     -- its note of pins is as the command leaves it, and the line kept within its touches
     pub record LineAnswered (line : List ℕ) (given : Status) (standing next : Standing) (before now : Scene)
         : Type 0 where

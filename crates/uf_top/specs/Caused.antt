@@ -20,8 +20,9 @@ use Rattle.uf_top.specs.Endings.{IsNotReady, IsRule}
 
 -- Says holds of the line that went to `errors`
 module _ (Says : List ℕ → Type 0) (X : List ℕ → List ℕ) (N : List ℕ → ℕ) (before now : Around) where
-  -- the cause of each status, with its details in the line: a rule, words that are no command, a count that rose, a
-  -- block that was missed, one that isn't canonical where it is read, two of one digest, or the bytes of the Head
+  -- the cause of each status, with its details in the line. It is a rule, words that are no command, a count that
+  -- rose, a block that was missed, one that isn't canonical where it is read, two of one digest, or the bytes of the
+  -- Head
   abbrev pub StatusShows : Result Command Refusal → Status → Type 0
   StatusShows asked status.Ok = ⊤
   StatusShows asked status.Rule = IsRule Says asked before.store.told before.left now.left

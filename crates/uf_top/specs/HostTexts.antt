@@ -23,7 +23,7 @@ host_row row = from_line row.entry.cid row.path
 abbrev pub host_text : (List ℕ → List ℕ) → (List ℕ → ℕ) → Profile → List ℕ → Tree → List ℕ
 host_text X N p path t = flat_map host_row (rows_of X N p (first_row (trimmed path)) t)
 
--- a fault at a path of the host, as a refusal: of what is neither a file nor a folder and of a folder that is too deep
+-- a fault at a path of the host, as a refusal. Of what is neither a file nor a folder and of a folder that is too deep
 -- the path is that of the walk, and else the one that was given. A reading of a DAG has no part in it
 abbrev pub host_refusal : List ℕ → HostFault → Refusal
 host_refusal path fault.Absent = refusal.Host (host.Absent path)

@@ -52,10 +52,9 @@ pub record TellsFaults (given : Status) (before now : Around) : Type 0 where
 
 module _ (X : List ℕ → List ℕ) (N : List ℕ → ℕ) where
   -- what is printed is printed whole at Ok, in part after a failed write, and else not at all, unless the command
-  -- writes while it reads blocks; of `add` it is the row of the input or the rows of what the host has, whose blocks
-  -- are held and durable, over every store that tells; of `dag import` the roots of a CAR whose blocks, and no
-  -- others, were added. Whatever the answer and whatever blocks are lost, nothing is printed but a prefix of the
-  -- reply's text
+  -- writes while it reads blocks. Of `add` it is the row of the input or the rows of what the host has, whose blocks
+  -- are held and durable, over every store that tells. Of `dag import` the roots of a CAR whose blocks, and no others,
+  -- were added. Whatever the answer and whatever blocks are lost, nothing is printed but a prefix of the reply's text
   pub record IsPrinted (asked : Result Command Refusal) (given : Status) (before now : Around) : Type 0 where
     pub prefix : (w : World) → FindsOver X N before.store.told now.store.told asked w
         → HasOutside asked (outside_of w) before now → CountsCanRise before.store
@@ -94,7 +93,7 @@ module _ (Says : List ℕ → Type 0) (X : List ℕ → List ℕ) (N : List ℕ 
   pub record Runs (asked : Result Command Refusal) (given : Status) (before now : Around) : Type 0 where
     -- over a store that stands as the command needs it and, where the command uses it, an input or a host that tells,
     -- with no count risen and no clash met, also in a store of the command's own, the answer is the reply, or out of
-    -- memory; over a store that stands for a tree no block of a command on it alone is missing or bad, whatever the
+    -- memory. Over a store that stands for a tree no block of a command on it alone is missing or bad, whatever the
     -- input and the output do
     pub replies : (w : World) → FindsWorld X N asked before.store.told w → HasOutside asked (outside_of w) before now
         → StaysQuiet asked given before now
@@ -107,7 +106,7 @@ module _ (Says : List ℕ → Type 0) (X : List ℕ → List ℕ) (N : List ℕ 
     pub whole : (standing : Standing) → of_command reads_tree_alone true asked ≡ true
         → TellsAs X N before.store.told standing → Calm before.store now.store → FindsAll given
     -- over a tree that the Head names and of whose blocks some may be lost, the answer is the reply too, or one of the
-    -- blocks that the command needs is lost; after Ok the new tree lacks no block that was held or is new
+    -- blocks that the command needs is lost. After Ok the new tree lacks no block that was held or is new
     pub lost : (p : Profile) (es : Entries) (rows : ℕ → ℕ) (held : Lookup) (outside : Outside)
         → StaysNamed X N before.store.told now.store.told p es → TellsBlocks before.store.told held
         → AreHeights p rows → HasOutside asked outside before now → StaysQuiet asked given before now

@@ -55,8 +55,8 @@ module _ (X : List ℕ → List ℕ) (N : List ℕ → ℕ) where
     pub idle : (p : Profile) (es : Entries) (bytes : List ℕ) → NamesOver X N before p es → calm bytes
         → is_idle bytes es command ≡ true → now ≡ before
 
-  -- how the text of a command was made: its answer is the reply, over lost blocks too, each refusal is one of its
-  -- kinds and has its cause, it uses the host no more than it may, it keeps within its touches, and it leaves what it
+  -- how the text of a command was made: its answer is the reply, over lost blocks too, and each refusal is one of its
+  -- kinds and has its cause. It uses the host no more than it may, it keeps within its touches, and it leaves what it
   -- leaves
   pub record Makes (command : Command) (done : Result (List ℕ) Refusal) (before now : Around) : Type 0 where
     pub answers : (w : World) → TellsAs X N before.store.told w.standing
@@ -97,7 +97,7 @@ module _ (X : List ℕ → List ℕ) (N : List ℕ → ℕ) where
         → is_idle bytes es command ≡ true → now ≡ before
 
   -- how a command was done and its text printed: its answer is the reply, over lost blocks too, what is printed is a
-  -- prefix of the reply's text, the reply's tree stands where its rows follow the Head and only they failed, each
+  -- prefix of the reply's text, and the reply's tree stands where its rows follow the Head and only they failed. Each
   -- refusal is one of its kinds and has its cause, it keeps within its touches, and it leaves what it leaves
   pub record Does (command : Command) (done : Result (Unit {0}) Refusal) (before now : Around) : Type 0 where
     pub answers : (w : World) → FindsWorld X N (Ok command) before.store.told w
@@ -172,7 +172,7 @@ module _ (X : List ℕ → List ℕ) (N : List ℕ → ℕ) where
         → NamesOver X N before.told p es → Stood before.faults now.faults
         → is_idle [] es (At ask path) ≡ true → now.told ≡ before.told
 
--- words that are refused, and a command that works on stores of its own, leave the store as it is; a command that
+-- words that are refused, and a command that works on stores of its own, leave the store as it is. A command that
 -- doesn't use the input or the host leaves that as it is; and `add -n` and `gen` make no touch
 pub record Spares {S I W : Type 0} (asked : Result Command Refusal) (store store_now : S) (source source_now : I)
     (side side_now : W) (touches touches_now : ℕ) : Type 0 where

@@ -49,10 +49,10 @@ pub fn a_batch_passes_no_failure_over()
         → PassesNoneOver X N did.ending given before.around now.around }
 {}
 
-/// Over a store that stands for a tree (or has no Head, or one that isn't read), and a host that tells, where nothing
-/// failed and no clash was met, each line of a batch that has a word is answered with the reply to what it asks for,
-/// over what the line before it left, or is out of memory, and its status is printed after its text. The batch ends
-/// with its input, at a line with such a status, at what is too long, or is out of memory.
+/// Over a store that stands for a tree (or has no Head, or one that isn't read), and a host that tells, a batch where
+/// nothing failed and no clash was met is answered line by line. Each line that has a word is answered with the reply
+/// to what it asks for, over what the line before it left, or is out of memory. Its status is printed after its text.
+/// The batch ends with its input, at a line with such a status, at what is too long, or is out of memory.
 pub fn a_batch_answers_line_by_line()
     ensures { (X : List ℕ → List ℕ) (N : List ℕ → ℕ) (host : HostTree) (most limit : ℕ) (given : TheStatus)
         (before now : Scene) (standing : Standing)
@@ -85,9 +85,9 @@ pub fn a_batch_keeps_within_the_sum_of_its_bounds()
 {}
 
 /// Where a batch begins over contents that are safe for a tree, the host tells, and no count is at its last value,
-/// whatever fails then: a prefix of what was written that isn't empty ends during one of the lines, and what a stop
-/// after it leaves stands for the tree before that line or the tree after it; and at the end the store is safe for the
-/// tree for which it then stands.
+/// it may be stopped, whatever fails. A prefix of what was written that isn't empty ends during one of the lines. What
+/// a stop after it leaves stands for the tree before that line or the tree after it; and at the end the store is safe
+/// for the tree for which it then stands.
 pub fn a_stop_of_a_batch_leaves_the_tree_before_or_after_a_line()
     ensures stops { (X : List ℕ → List ℕ) (N : List ℕ → ℕ) (host : HostTree) (most limit : ℕ) (given : TheStatus)
         (before now : Scene) (a b : Contents) (p : Profile) (es : Entries)

@@ -51,16 +51,15 @@ use uf_store::{Steps, Store, Sweep};
 ///
 /// `init` makes a store ready; `files mkdir`, `files ls`, `files stat`, `files read`, `files write`, `files truncate`,
 /// `files cp`, `files mv`, `files rm`, `files chmod`, `files touch` and `files strip` work on the tree that its Head
-/// names; `add` prints the CID of its input as a
-/// file (UnixFS v1; Kubo's balanced layout with raw leaves), or those of a file of the host or of a folder and
-/// everything in it, and, without `-n`, keeps their blocks, and with `--to-files` puts them into the tree; `cat`
-/// prints a file of a DAG, and `get` writes what is in one to the host; `gen` makes a tree on stores of its own and
-/// says its root; `pin add`, `pin rm` and `pin ls` work on the note of pins; `pull` fetches what is below a CID from a
-/// peer, and `serve` is one; `repo gc` lets go of what neither the tree nor a pin leads to; `prove` writes the blocks
-/// that decide a path of the tree, and `check` reads them and needs no store. Refused are first words
-/// that are none, then texts that are no paths, then a Head that is refused, then an input that is too long, and then
-/// what the rules of the command refuse. The status says how the command ended; after a refusal its line goes to
-/// `errors`, and a failed write of that line changes no status.
+/// names. `add` prints the CID of its input as a file (UnixFS v1; Kubo's balanced layout with raw leaves), or those of
+/// a file of the host or of a folder and everything in it. Without `-n` it keeps their blocks, and with `--to-files`
+/// it puts them into the tree; `cat` prints a file of a DAG, and `get` writes what is in one to the host. `gen` makes
+/// a tree on stores of its own and says its root; `pin add`, `pin rm` and `pin ls` work on the note of pins; `pull`
+/// fetches what is below a CID from a peer, and `serve` is one. `repo gc` lets go of what neither the tree nor a pin
+/// leads to; `prove` writes the blocks that decide a path of the tree, and `check` reads them and needs no store.
+/// Refused are first words that are none, then texts that are no paths, then a Head that is refused, then an input
+/// that is too long, and then what the rules of the command refuse. The status says how the command ended; after a
+/// refusal its line goes to `errors`, and a failed write of that line changes no status.
 pub fn run<S: Sweep, N: NameHash, W: Host, I: Source, O: Sink, E: Sink, L: Ledger>(
     alloc: Global,
     words: &[String],

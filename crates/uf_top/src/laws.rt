@@ -53,8 +53,8 @@ pub fn what_is_safe_survives_stops()
         → EachOutcome (LeavesTree X N p es) t.writes }
 {}
 
-/// Where a store is safe for a tree, a command has written what `run` says that it writes, and the store then stands
-/// for a tree, even if that is the same, as it does where only the output of an `add --to-files` failed: the store is
+/// A store is safe for a tree, a command has written what `run` says that it writes, and the store then stands for a
+/// tree, even if that is the same. So it does where only the output of an `add --to-files` failed. Then the store is
 /// safe for the tree after, and a stop after any of these writes leaves the tree before or the tree after. The same of
 /// a `commit` alone.
 pub fn a_stop_leaves_the_tree_before_or_after()
@@ -80,7 +80,7 @@ pub fn a_stop_of_init_leaves_no_head_or_its_tree()
 {}
 
 /// Where a store tells what was written, whatever its Head, each block of what an `add` that was done says in its rows
-/// is held whatever a stop leaves: of the file of its input, and of the tree that the host has.
+/// is held whatever a stop leaves. These are the blocks of the file of its input, and of the tree that the host has.
 pub fn a_stop_after_add_leaves_its_blocks()
     ensures input { (X : List ℕ → List ℕ) (N : List ℕ → ℕ) (before now : Scene) (a b : Contents)
         → Runs (Said before.errors now.errors) X N (Ok (commands.Add false)) status.Ok before.around now.around

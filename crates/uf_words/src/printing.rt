@@ -11,7 +11,7 @@ use uf_cid::{Memory, Text};
 // The ASCII bytes that are escaped: those up to the space, 127 and the percent sign.
 const ESCAPED: AsciiSet = ascii_set!(CONTROLS.add(b' ').add(b'%'));
 
-/// The text as it is printed, in one word: `%` and two upper case hexadecimal digits stand for each byte up to the
+/// The text as it is printed, in one word. `%` and two upper case hexadecimal digits stand for each byte up to the
 /// space, for `%`, for 127 and for each byte from 128 on (percent-encoding, RFC 3986 section 2.1); a `/` stays.
 pub fn shown(alloc: Global, text: &str) -> Result<Text, Memory>
     ensures { IfOk result (λ t. t ≡ shown_bytes text.now) }
