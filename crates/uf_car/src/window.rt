@@ -181,7 +181,7 @@ impl Window {
         self.grow(MOST_BUFFERED)
     }
 
-    // Moves the bytes to the front.
+    // Moves the bytes to the start.
     fn to_front(&mut self)
         ensures keeps { KeepsBytes self.old self.new }
         ensures front { self.new.from ≡ 0 }

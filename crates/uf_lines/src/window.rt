@@ -89,7 +89,7 @@ impl SourceBuffer {
         self.grow(size.min(most.saturating_add(65536)))
     }
 
-    // Moves the bytes to the front.
+    // Moves the bytes to the start.
     fn to_front(&mut self)
         ensures keeps { in_window self.new ≡ in_window self.old }
         ensures front { self.new.from ≡ 0 }

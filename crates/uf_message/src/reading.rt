@@ -26,7 +26,7 @@ impl From<CutFault> for MsgFault {
     }
 }
 
-// The number at the front, and the bytes after it.
+// The number at the start, and the bytes after it.
 fn number(bytes: &[u8]) -> Result<(u64, &[u8]), MsgFault>
     ensures exact { Gives (λ x. (x.0, x.1.now)) result (cut_of (number_at bytes.now)) }
     ensures shorter { IfOk result (λ x. length x.1.now < length bytes.now) }
@@ -34,7 +34,7 @@ fn number(bytes: &[u8]) -> Result<(u64, &[u8]), MsgFault>
     Ok(read_number(bytes)?)
 }
 
-// The bytes at the front whose number stands before them, and the bytes after them.
+// The bytes at the start whose number stands before them, and the bytes after them.
 fn piece(bytes: &[u8]) -> Result<(&[u8], &[u8]), MsgFault>
     ensures exact { Gives (λ x. (x.0.now, x.1.now)) result (cut_of (bytes_at bytes.now)) }
     ensures shorter { IfOk result (λ x. length x.1.now < length bytes.now) }

@@ -2,7 +2,7 @@
 ghost use Rattle.std.specs.Prelude.{◌≡◌, ◌∷◌, ◌++◌, ℕ, List, [], codes, length, replicate};
 ghost use Rattle.uf_tree.specs.Laying.{cut_to, laid};
 
-/// A piece after the end stands after zeros, one at the front lies over the first bytes, and of nothing nothing
+/// A piece after the end stands after zeros, one at the start lies over the first bytes, and of nothing nothing
 /// changes.
 pub fn pieces_are_laid()
     ensures behind { laid (codes "abc") 10 (codes "z") ≡ codes "abc" ++ replicate 7 0 ++ codes "z" }

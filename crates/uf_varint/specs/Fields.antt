@@ -46,11 +46,11 @@ number_after bytes (Value n used) = Ok (n, drop used bytes)
 number_after bytes Short = Err Truncated
 number_after bytes Bad = Err Varint
 
--- the number at the front, and the bytes after it
+-- the number at the start, and the bytes after it
 unfoldable pub number_at : List ℕ → Result (ℕ × List ℕ) CutFault
 number_at bytes = number_after bytes (read_proto_of bytes)
 
--- n bytes at the front, and the bytes after them
+-- the first n bytes, and the bytes after them
 unfoldable pub piece_at : ℕ → List ℕ → Result (List ℕ × List ℕ) CutFault
 piece_at n bytes = if nat_lt (length bytes) n then Err Truncated else Ok (take n bytes, drop n bytes)
 

@@ -15,7 +15,7 @@ pub enum CutFault {
     Wire,
 }
 
-/// The number at the front, and the bytes after it.
+/// The number at the start, and the bytes after it.
 #[tactic(auto, unfolding(crate::specs::Fields::number_at))]
 pub fn read_number(bytes: &[u8]) -> Result<(u64, &[u8]), CutFault>
     ensures exact { MatchResult result (λ x. number_at bytes.now ≡ Ok (x.0, x.1.now))
@@ -29,7 +29,7 @@ pub fn read_number(bytes: &[u8]) -> Result<(u64, &[u8]), CutFault>
     }
 }
 
-/// n bytes at the front, and the bytes after them.
+/// The first n bytes, and the bytes after them.
 #[tactic(auto, unfolding(crate::specs::Fields::piece_at))]
 pub fn read_piece(count: usize, bytes: &[u8]) -> Result<(&[u8], &[u8]), CutFault>
     ensures exact { MatchResult result (λ x. piece_at count bytes.now ≡ Ok (x.0.now, x.1.now))

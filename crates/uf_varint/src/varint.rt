@@ -13,7 +13,7 @@ pub enum Var {
     Bad,
 }
 
-/// Reads the number at the front where its spelling is the shortest one and has at most nine bytes (multiformats
+/// Reads the number at the start where its spelling is the shortest one and has at most nine bytes (multiformats
 /// unsigned-varint). Bytes may follow it.
 pub fn read_multi(bytes: &[u8]) -> Var
     ensures exact { result ≡ read_multi_of bytes.now }
@@ -45,7 +45,7 @@ pub fn read_multi(bytes: &[u8]) -> Var
     Var::Value(value + byte * scale, 9)
 }
 
-/// Reads the number at the front in any spelling of at most ten bytes, of which the tenth is 0 or 1 (Protocol Buffers,
+/// Reads the number at the start in any spelling of at most ten bytes, of which the tenth is 0 or 1 (Protocol Buffers,
 /// "Base 128 Varints"). Bytes may follow it.
 pub fn read_proto(bytes: &[u8]) -> Var
     ensures exact { result ≡ read_proto_of bytes.now }

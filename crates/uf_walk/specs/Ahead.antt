@@ -8,7 +8,7 @@ use Rattle.uf_walk.specs.declared.turn.WalkFault.{WalkFault}
 use Rattle.uf_walk.specs.declared.turn.WalkFault.TheVariants as fault
 use Rattle.uf_walk.specs.Order.{is_met}
 
--- some that were met were taken away from the front
+-- some that were met were taken away from the start
 pub record Passed (met before now : List Cid) : Type 0 where
   pub passed : List Cid
   pub front : before ≡ passed ++ now
@@ -19,7 +19,7 @@ abbrev pub StartsNew : List Cid → List Cid → Type 0
 StartsNew met [] = Unit {0}
 StartsNew met (c ∷ ahead) = is_met met c ≡ false
 
--- what was met was taken away from the front, up to the first new one
+-- what was met was taken away from the start, up to the first new one
 pub record PassesOver (met before now : List Cid) : Type 0 where
   pub past : Passed met before now
   pub starts_new : StartsNew met now
