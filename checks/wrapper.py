@@ -35,6 +35,36 @@ if [ "$1" = run ]; then
     chmod +x out/uf_tool
 fi
 """
+PARTS = """# Stands in for the functions of a kit, which make a library of its statements.
+import os, subprocess
+
+def guarded():
+    pass
+
+def lock(_):
+    return []
+
+def help_of(_):
+    return "--statements"
+
+def main(*words):
+    return subprocess.call(["rt", *words])
+
+def crates_below(folder):
+    return [Crate(os.path.join(folder, it)) for it in os.listdir(folder)]
+
+class Crate:
+    cuts_libraries = False
+
+    def __init__(self, folder):
+        self.folder = folder
+
+    def stamp(self):
+        return "of statements: " + str(Crate.cuts_libraries)
+
+    def build_rlib(self, flags, anew):
+        return subprocess.call(["rt", "lib", *flags]) if anew else 2
+"""
 MAIN = '[ "$*" = "add -n" ] && exit; echo "$text$#"; for it in "$@"; do printf "%s\\n" "$it"; done; cat; exit 3\n'
 
 
@@ -104,7 +134,7 @@ class Tried:
     def repository(self, name="top"):
         """A repository of three crates, two of them below the program, and one that it doesn't need."""
         os.makedirs(os.path.join(self.folder, name, "tools"))
-        for it in ("unixfs", "install", "tools/first_use.py", "HANDLES", ".gitignore"):
+        for it in ("unixfs", "install", "tools/first_use.py", "tools/prove.py", "HANDLES", ".gitignore"):
             shutil.copy(os.path.join(TOP, it), os.path.join(self.folder, name, it))
         self.write(f"{name}/crates.txt", "# lines\nuf_low:\nuf_mid: uf_low\nuf_apart: uf_mid\nuf_tool: sha2 uf_low uf_mid\n")
         for crate in ("low", "mid", "apart"):
@@ -129,6 +159,18 @@ def first_use(it):
     it.asked()
     it.sh("git checkout -q crates", "top")
     it.is_("an edit that was taken back", it.use()[:2], (3, b"low 10\n"))
+    it.asked()
+
+
+def by_parts(it):
+    """A kit whose functions are known makes libraries of statements."""
+    it.write("bin/rtlib.py", PARTS)
+    it.sh("rm -rf ../cache crates/*/out", "top")
+    it.is_("a kit with its functions", (it.use()[:2], it.asked()),
+           ((3, b"low 10\n"), ["lib uf_low", "lib uf_mid", "run uf_tool"]))
+    it.is_("libraries of statements", it.sh("cat crates/uf_mid/out/rlib/stamp", "top"), "of statements: True")
+    it.sh("rm -rf bin/rtlib.py bin/__pycache__ cache top/crates/*/out")
+    it.use()
     it.asked()
 
 
@@ -259,6 +301,7 @@ def main():
         it = Tried(folder)
         it.repository()
         first_use(it)
+        by_parts(it)
         whose_sources(it)
         cache(it)
         for number, to_group in ((signal.SIGINT, True), (signal.SIGINT, False), (signal.SIGTERM, False), (signal.SIGKILL, False)):

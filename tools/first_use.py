@@ -5,7 +5,7 @@
 HEAD is the commit that the checkout is at, or a sum of its files' times where there is no commit. `unixfs` starts this
 where the program is not that of the sources.
 
-Each crate that the program needs is proved by `rt lib` in a folder of its own, which holds the crate, those below it and
+Each crate that the program needs is proved by prove.py in a folder of its own, which holds the crate, those below it and
 their libraries, so crates that don't need each other are proved side by side. What was proved is moved into the crate's
 out/ at once: a later try goes on from there. The program of a commit with no edit is kept in the user's cache folder, so
 that a second clone starts at once. An interruption ends all that was begun, and leaves no folder.
@@ -30,6 +30,7 @@ PROGRAM = os.path.join(OUT, TOOL)
 BUILT = os.path.join(OUT, "built_from")
 ROOM = os.path.join(OUT, "first")
 LOG = os.path.join(TOP, "build.log")
+PROVE = os.path.join(TOP, "tools", "prove.py")
 PARTS = ("src", "specs", "proofs")
 LEFT_OUT = shutil.ignore_patterns("out", "must-fail", "edits")
 GIB = 1 << 30
@@ -169,7 +170,7 @@ class Job:
         self.took, self.root = 0.0, os.path.join(ROOM, crate)
         self.folder = os.path.join(self.root, "crates", crate)
         self.lay_out()
-        words = ["rt", "run", "--jobs", str(jobs), "--", "add", "-n"] if crate == TOOL else ["rt", "lib", "--jobs", str(jobs)]
+        words = [sys.executable, "-I", PROVE, *(["run", str(jobs), "add", "-n"] if crate == TOOL else ["lib", str(jobs)])]
         self.log = open(os.path.join(self.root, "log"), "wb")
         environment = dict(os.environ, TMPDIR=os.path.join(self.root, "tmp"))
         self.begun = time.monotonic()
