@@ -157,22 +157,31 @@ class Page:
 
     def __init__(self, crate, name, texts):
         self.head, self.rows, self.texts = "", [], texts
-        self.comment, self.record = [], None
+        self.comment, self.section, self.record = [], "", None
         text = text_of("crates", crate, "specs", *name.split(".")[:-1], name.split(".")[-1] + ".antt")
         for number, line in enumerate(text.splitlines()):
             self.take(line, number)
 
     def take(self, line, number):
-        """A line: of a comment, of what a comment stands above, or neither."""
+        """A line: of a comment, of what a comment stands above, or neither. A comment over a module is of no definition."""
         text, indent = line.strip(), len(line) - len(line.lstrip())
         if text.startswith("--"):
-            self.comment += [] if text.startswith("----") else [text[2:].strip()]
+            self.note(text[2:].strip())
         elif text.startswith("use ") and not self.rows:
             self.head, self.comment = self.head or " ".join(self.comment), []
         elif not text:
             self.record = None
-        elif not re.match(r"(pub |unfoldable )*(module|mutual|mod)\b", text):
+        elif re.match(r"(pub |unfoldable )*module\b", text):
+            self.comment = []
+        elif not re.match(r"(pub |unfoldable )*(mutual|mod)\b", text):
             self.define(line, indent)
+
+    def note(self, text):
+        """A line of a comment, or the title of a section, which is said of the first definition there that has no comment."""
+        if text.startswith("----"):
+            self.comment, self.section = [], text.strip("- ")
+        else:
+            self.comment.append(text)
 
     def define(self, line, indent):
         """A line of a definition: one that has no comment stands with those before it."""
@@ -180,7 +189,8 @@ class Page:
         found = None if inside else HEAD.match(line)
         if found:
             self.record, word = indent if found.group(1) else None, found.group(2)
-            meaning = sentence(" ".join(self.comment)) or own_text(self.texts[word], word)
+            meaning = sentence(" ".join(self.comment) or self.section) or own_text(self.texts[word], word)
+            self.section = ""
             if meaning or not self.rows:
                 self.rows.append(([], meaning))
             self.rows[-1][0].append(word)

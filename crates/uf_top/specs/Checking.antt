@@ -70,6 +70,7 @@ module _ (X : List ℕ → List ℕ) (N : List ℕ → ℕ) (absent : Bool) (roo
 
 -- Says holds of the line that went to `errors`
 module _ (Says : List ℕ → Type 0) (X : List ℕ → List ℕ) (N : List ℕ → ℕ) where
+  -- what `check` did: how it ended, what the input proves of a path below a root, and that the store is as before
   pub record RunsCheck (absent : Bool) (root : Cid) (names : List (List ℕ)) (given : Status) (before now : Around)
       : Type 0 where
     -- how the check ended, which the status and the line report

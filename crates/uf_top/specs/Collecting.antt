@@ -143,6 +143,7 @@ module _ (X : List ℕ → List ℕ) where
 
 -- Says holds of the line that went to `errors`
 module _ (Says : List ℕ → Type 0) (X : List ℕ → List ℕ) (N : List ℕ → ℕ) where
+  -- what `repo gc` did: how it ended, which blocks went, and that what is kept stays, whatever failed
   pub record RunsGc (given : Status) (before now : Around) : Type 0 where
     -- how the collection ended, which the status and the line report
     pub done : Result (Unit {0}) Refusal

@@ -24,6 +24,7 @@ use Rattle.uf_tree.specs.Standing.{Standing}
 
 -- Says holds of the line that went to `errors`
 module _ (Says : List ℕ → Type 0) (X : List ℕ → List ℕ) (N : List ℕ → ℕ) where
+  -- what `pull` did: how it ended, what was asked for and kept, and that the tree stands as before
   pub record RunsPull (cid : Cid) (given : Status) (before now : Around) : Type 0 where
     -- how the pull ended, which the status and the line report
     pub done : Result ℕ PullFault
@@ -50,6 +51,7 @@ module _ (Says : List ℕ → Type 0) (X : List ℕ → List ℕ) (N : List ℕ 
     pub stands : (standing : Standing) → TellsAs X N before.store.told standing → TellsAs X N now.store.told standing
     pub host : now.host ≡ before.host
 
+  -- what `serve` did: how it ended, one frame for each line that asked for a block, and that nothing was kept
   pub record RunsServe (given : Status) (before now : Around) : Type 0 where
     -- how the answering ended, which the status and the line report
     pub done : Result ℕ ServeFault
