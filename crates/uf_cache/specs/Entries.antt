@@ -38,7 +38,7 @@ MayPut cid bytes before now = (now ≡ with_entry cid bytes before) ⊎ (now ≡
 abbrev pub bytes_of : Entries → ℕ
 bytes_of es = sum_by length (values_of es.entries)
 
--- there is room for so many bytes more below 64 MiB
+-- there is room for n bytes more below 64 MiB
 abbrev pub HasRoom : ℕ → Entries → Type 0
 HasRoom room es = bytes_of es + room ≤ 67108864
 

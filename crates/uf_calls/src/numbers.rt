@@ -26,7 +26,7 @@ fn write_number(alloc: Global, number: u64, told: &mut Block) -> Result<(), Memo
     say_digits(told, &out)
 }
 
-// How many bytes are left behind a content of a wire type, or why it can't be cut.
+// How many bytes are left after a content of a wire type, or why it can't be cut.
 fn skip(alloc: Global, wire: u64, bytes: &[u8], told: &mut Block) -> Result<(), Memory> {
     match skip_content(wire, bytes) {
         Ok(rest) => tell_count(told, alloc, rest.len()),

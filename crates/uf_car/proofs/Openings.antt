@@ -81,7 +81,7 @@ long_enough xs h e = let short : length xs < 9 = ((read_multi_is_short xs).0 e).
 
 -- ---- a CID
 
--- a CID has so many bytes, and there are as many
+-- a CID has n bytes, and there are as many
 abbrev Measures : ℕ → List ℕ → Type 0
 Measures used bytes = (0 < used) × (used ≤ 36) × (used ≤ length bytes)
 

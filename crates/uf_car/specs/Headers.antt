@@ -65,7 +65,7 @@ unfoldable pub roots_from : List Cid → ℕ → List ℕ → Result (List Cid �
 roots_from roots zero bytes = Ok (roots, bytes)
 roots_from roots (suc n) bytes = root_of bytes >>= λ r. roots_from (roots ++ r.0 ∷ []) n r.1
 
--- the version, and nothing behind it
+-- the version, and nothing after it
 abbrev pub ending : List Cid → List ℕ → Result (List Cid) CarFault
 ending roots [] = Err fault.Header
 ending roots (v ∷ []) = if v == 1 then Ok roots else if nat_lt v 24 then Err (fault.Version v) else Err fault.Header

@@ -6,7 +6,7 @@ use Rattle.std.proofs.lemmas.List.Sums.{position_or_len_is}
 use Rattle.uf_path.specs.Paths.{is_slash}
 use Rattle.uf_command.specs.Cids.{slashes_before}
 
--- so many bytes in front are slashes
+-- the first n bytes are slashes
 abbrev pub AreSlashes : ℕ → List ℕ → Type 0
 AreSlashes count text = (k : ℕ) → k < count → is_slash (get_or text k 0) ≡ true
 

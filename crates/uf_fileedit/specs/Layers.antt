@@ -29,7 +29,7 @@ use Rattle.uf_fileedit.specs.declared.layout.Layer.{Layer}
 abbrev pub room_at : Profile → ℕ → ℕ
 room_at p k = span p.chunk p.width k
 
--- no more parts of this height than so many bytes need
+-- no more parts of this height than n bytes need
 abbrev pub AreNoMore : Profile → ℕ → ℕ → List Part → Type 0
 AreNoMore p k size parts = length parts * room_at p k < size + room_at p k
 

@@ -33,7 +33,7 @@ abbrev pub SaysGoodReading : {A : Type 0} → (List ℕ → List ℕ) → Seen �
     → Result A DagFault → Type 0
 SaysGoodReading hash seen said answer = ByGoodBlocks hash seen.told (λ held. FollowsReading (λ a. a) (said held) answer)
 
--- and so many visits are left behind it
+-- and n visits are left after it
 abbrev pub SaysVisits : {A : Type 0} → (List ℕ → List ℕ) → Seen → ℕ → (Lookup → Visits A) → Result A DagFault → Type 0
 SaysVisits hash seen visits said answer =
     ByGoodBlocks hash seen.told (λ held. FollowsReading (λ a. (a, visits)) (said held) answer)

@@ -17,7 +17,7 @@ use Rattle.uf_lenient.specs.declared.unixfs.Unixfs.{Unixfs}
 use Rattle.uf_lenient.specs.Reading.{◌>>◌, Visits, Ways, file_under, part_bytes, shard_ways, unvisited, sub_ways, tree_under, visit_of}
 use Rattle.uf_lenient.specs.Unixfs.{as_file, as_part, as_shard}
 
--- how many visits are left behind a reading, or its first fault
+-- how many visits are left after a reading, or its first fault
 abbrev pub how_ends : {A : Type 0} → Visits A → Result ℕ DagFault
 how_ends (Ok x) = Ok x.1
 how_ends (Err e) = Err e

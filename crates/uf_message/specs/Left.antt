@@ -8,7 +8,7 @@ use Rattle.uf_varint.specs.Fields.{content_field, number_field, optional}
 use Rattle.uf_message.specs.Spelling.{kind_number, mtime_bytes}
 use Rattle.uf_message.specs.declared.message.Message.{Message}
 
--- what is left behind a front, where it stands in front
+-- what is left after a prefix, where the bytes begin with it
 abbrev pub left : List ℕ → List ℕ → Option (List ℕ)
 left [] bytes = Some bytes
 left (x ∷ xs) [] = None
@@ -17,7 +17,7 @@ left (x ∷ xs) (y ∷ ys) = if y == x then left xs ys else None
 abbrev pub seen_left : Option (Bor (List ℕ)) → Option (List ℕ)
 seen_left found = option_map (λ rest. rest.now) found
 
--- what is left behind the parts of a message, one after the other
+-- what is left after the parts of a message, one after the other
 unfoldable pub message_left : Message → List ℕ → Option (List ℕ)
 message_left m bytes =
     option_and_then (λ a. option_and_then (λ b. option_and_then

@@ -35,10 +35,10 @@ pub fn the_first_root_comes_first()
         → (front : List Cid) × (rest : List Cid) × (order held most root ≡ Ok front) × (list ≡ front ++ rest) }
 {}
 
-/// What is safe and kept stays safe: where a store tells what was written, a note Head and some blocks outlive every
+/// What is safe and kept stays safe: where a store tells what was written, a note Head and some blocks survive every
 /// stop, and these are among the CIDs that a sweep keeps, then every stop in its course leaves the Head and the
 /// blocks, and so does every stop after it.
-pub fn what_is_kept_outlives_a_sweep()
+pub fn what_is_kept_survives_a_sweep()
     ensures during { (t : Contents) (head : List ℕ) (blocks : List Held) (kept : List Cid) (held : HeldMap)
         (notes : Notes)
         → IsSafe t head blocks → AreAmong kept blocks → IsSweepOutcome (with_sync t).writes kept held notes
@@ -64,7 +64,7 @@ pub fn a_tree_that_is_kept_stands()
 
 /// What is below a CID that was pinned survives every crash: after a sync of what a store tells and what was written,
 /// each outcome holds all that was held.
-pub fn what_a_pin_keeps_outlives_stops()
+pub fn what_a_pin_keeps_survives_stops()
     ensures synced { (t : Contents) (held : HeldMap) (notes : Notes) → IsPlain t
         → IsOutcome (with_sync t).writes held notes → held ≡ t.held }
     ensures noted { (t : Contents) (text : List ℕ) (held : HeldMap) (notes : Notes) → IsPlain t

@@ -19,7 +19,7 @@ pub use collecting::collect;
 pub use fault::{PinFault, PinsFault};
 pub use laws::{
     a_note_lists_one_list_of_pins, a_tree_that_is_kept_stands, the_first_root_comes_first,
-    the_reach_is_what_is_reached, what_a_pin_keeps_outlives_stops, what_is_kept_outlives_a_sweep,
+    the_reach_is_what_is_reached, what_a_pin_keeps_survives_stops, what_is_kept_survives_a_sweep,
 };
 pub use listing::list_pins;
 pub use reading::read_pins;

@@ -66,7 +66,7 @@ module _ (hash : List ℕ → List ℕ) (c : Cid) (more place : ℕ) where
   of_wrong_block bytes d block used is e = ap (answer_to hash c more) (frames_are place bytes ∙ ap (frames_by frames_from place bytes) is) ∙ answer_wrong d block _ e
       ∙ ap (λ (u : ℕ). if_dropped (λ n. answer_to hash c n (frames_from (place + used) (drop used bytes))) u more) (place_first (place + used) (drop used bytes))
 
--- a frame of so many bytes was used
+-- a frame of n bytes was used
 pub uses_frame : (frame : Frame) (used place : ℕ) (bytes : List ℕ) (now : Peer) (left_now : Told) (rest : List ℕ) → begins bytes ≡ Stands frame used → left_now ≡ Some rest → IsLeftBehind bytes (begins bytes) rest
     → now.place ≡ place + used → UsesBytes place bytes now left_now
 uses_frame frame used place bytes now left_now rest is left behind moved = record {

@@ -92,7 +92,7 @@ impl<X: BlockHash> MemStore<X> {
         self.blocks.insert(*cid, bytes, is_good)
     }
 
-    /// What a stop after the first `at` writes leaves, where the saves at the places in `lost` didn't outlive it.
+    /// What a stop after the first `at` writes leaves, where the saves at the places in `lost` didn't survive it.
     /// Places are those in the list of writes, counted from 0; a save before the last sync is there whatever
     /// `lost` says. The new store's past writes are the notes and the saves that are left, in their order, and one
     /// sync.

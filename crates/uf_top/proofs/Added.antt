@@ -341,7 +341,7 @@ read-ready only_hash told refusal.Read read = tt
 read-ready only_hash told refusal.Write read = tt
 read-ready only_hash told (refusal.Store fault) read = tt
 
--- the row of a file, once its blocks were made to outlive a stop
+-- the row of a file, once its blocks were made durable
 pub synced-row : (X : List ℕ → List ℕ) (p : Profile) (a b : Told) (entry : Entry) (row : List ℕ) (r : Result (List ℕ) Refusal) (l m : streams.Told) → OnOk r (b ≡ changed with_sync a)
     → IfOk r (λ text. text ≡ row) → row ≡ added_line entry.cid → Stops r → IsFileOf X p a (Ok entry) l m → IsRowOf X p b r l m
 synced-row X p a b entry row (Ok text) l m synced is row_is stops file = row-of X p a b entry text l m (λ bs h. leaves-holds a b bs (OnlySynced synced) h) (is ∙ row_is) file

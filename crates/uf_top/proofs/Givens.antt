@@ -113,7 +113,7 @@ entry-given X N p told l m (Ok e) (Err why) h file = subst (IsUngiven (SaysInput
 entry-given X N p told l m (Err f) (Ok given) h file = (let e = not-given-entry f given h in absurd cc)
 entry-given X N p told l m (Err f) (Err why) h file = subst (IsUngiven (SaysInput p l)) (sym (refused-as f why h)) (as-said X N p l m f file)
 
--- the row, once its blocks were made to outlive a stop
+-- the row, once its blocks were made durable
 pub entry-synced : (X : List ℕ → List ℕ) (p : Profile) (a b : Told) (l m : streams.Told) (r : Result Entry IntakeFault) (given : Given) (done : Result (List ℕ) Refusal)
     → GivesEntry r (Ok given) → IsFileOf X p a r l m → OnOk done (b ≡ changed with_sync a) → IfOk done (λ text. text ≡ given.text) → Stops done → IsRowOf X p b done l m
 entry-synced X p a b l m (Ok e) given done h file synced is stops = synced-row X p a b e given.text done l m synced is h.1 stops file

@@ -13,7 +13,7 @@ zeros-long : (n : ℕ) → length {A = ℕ} (replicate n 0) ≡ n
 zeros-long zero = refl
 zeros-long (suc n) = ap suc (zeros-long n)
 
--- so many bytes have one, whatever the hash
+-- n bytes have one, whatever the hash
 height-of : (p : Profile) → IsTrue (is_profile p) → (n : ℕ) → (h : ℕ) × IsHeight p.chunk p.width n h
 height-of p ok n =
     let r = file_plan-rows (λ bytes. []) p none (replicate n 0) (kept p ok).some (kept p ok).two in

@@ -489,7 +489,7 @@ pub unmade-reads : (s t : HostSide) → t.told ≡ s.told → Counts false s.rea
 unmade-reads s t told counts writes = record { told = told; reads = counts; writes = writes }
 
 module _ (X : List ℕ → List ℕ) (N : List ℕ → ℕ) (p : Profile) (host : HostTold) (recursive : Bool) (path : List ℕ) where
-  -- the text, once its blocks were made to outlive a stop
+  -- the text, once its blocks were made durable
   pub synced-text : (a b : Told) (text : List ℕ) (r : Result (List ℕ) Refusal) → OnOk r (b ≡ changed with_sync a) → IfOk r (λ given. given ≡ text) → Stops r → MakesHostText X N p a host recursive path (Ok text) → MakesHostText X N p b host recursive path r
   synced-text a b text (Ok given) synced is stops h = record {
     tree = h.tree;

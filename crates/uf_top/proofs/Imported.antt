@@ -101,7 +101,7 @@ sync-tells : (a : Told) (l : List Held) → TellsHeld a l → TellsHeld (changed
 sync-tells None l h = absurd h
 sync-tells (Some t) l h = h
 
--- ---- the blocks are kept, and made to outlive a stop
+-- ---- the blocks are kept, and made durable
 
 module _ (X : List ℕ → List ℕ) where
   held-after : (sections : List Held) (a b : Told) (held : Lookup) → TellsBlocks a held → b ≡ changed (with_saves sections) a → SavesOnly X a b → TellsHeld b sections
@@ -166,7 +166,7 @@ module _ (X : List ℕ → List ℕ) where
       writes = writes;
     }
 
-    -- the lines of the roots are made, and the blocks outlive a stop
+    -- the lines of the roots are made, and the blocks are durable
     module _ (c : Seen) (calm : StaysCalm a b) (counts : Counts false i j) where
       pub roots-synced : (imported : Imported) (r : Result (List ℕ) Refusal) → Reads (Ok imported) → IfOk r (λ t. t ≡ flat_map root_line imported.roots) → Stops r
           → OnOk r (c.told ≡ changed with_sync b.told) → OnErr r (LeavesHead b.told c.told) → Shown X NoneIsBad (refusal_fault r) b c → KeepsCar X r a c l i j

@@ -48,7 +48,7 @@ pub fn what_stands_stays()
 {}
 
 /// What any stop leaves of a store that is safe for a tree stands for that tree.
-pub fn what_is_safe_outlives_stops()
+pub fn what_is_safe_survives_stops()
     ensures { (X : List ℕ → List ℕ) (N : List ℕ → ℕ) (t : Contents) (p : Profile) (es : Entries) → IsSafeFor X N t p es
         → EachOutcome (LeavesTree X N p es) t.writes }
 {}

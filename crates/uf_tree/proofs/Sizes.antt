@@ -101,7 +101,7 @@ meta_length m =
     length-append (optional (number_field 0x38) m.mode) (optional (λ t. content_field 0x42 (mtime_bytes t)) m.mtime) in
     omega arith
 
--- a link, whose name has a length of so many bytes
+-- a link, whose name has a length of n bytes
 link_length : (v : ℕ) (l : Link) → IsCid l.cid → length (varint (length l.name)) ≤ v → length (link_bytes l) ≤ 50 + v + length l.name
 unfolding varint
 link_length v l cid h =
@@ -161,7 +161,7 @@ dir_length p m l ok h basic =
     let all : length (dir_block m l) ≡ length (links_bytes (map (λ (e : Named). link_of e.0 e.1) l)) + length (content_field 0x0a (message_bytes (dir_message m))) = length-append (links_bytes (map (λ (e : Named). link_of e.0 e.1) l)) (content_field 0x0a (message_bytes (dir_message m))) in
     omega arith
 
--- links of at most so many bytes each
+-- links of at most n bytes each
 many_links : (m : ℕ) (ls : List Link) → AllByRecursion (λ (l : Link). length (link_bytes l) ≤ m) ls → length (links_bytes ls) ≤ (m + 11) * length ls
 many_links m [] h = omega arith
 many_links m (l ∷ ls) h =

@@ -19,7 +19,7 @@ use Rattle.uf_tree.specs.Nodes.{link_of, file_block, file_message}
 use Rattle.uf_tree.specs.Validity.{IsPartLink, IsFileNode}
 use Rattle.uf_tree.proofs.Sizes.{meta_fields, meta_length}
 
--- a varint has at most so many bytes
+-- a varint has at most n bytes
 pub varint_is_short : (room n : ℕ) → length (varint_within room n) ≤ room + 1
 unfolding varint_within
 varint_is_short zero n = omega arith
