@@ -35,9 +35,9 @@ pub fn the_first_root_comes_first()
         → (front : List Cid) × (rest : List Cid) × (order held most root ≡ Ok front) × (list ≡ front ++ rest) }
 {}
 
-/// What is safe and kept stays safe. A store tells what was written, a note Head and some blocks survive every stop,
-/// and these are among the CIDs that a sweep keeps. Then every stop in its course leaves the Head and the blocks, and
-/// so does every stop after it.
+/// What is safe and kept stays safe: where a store tells what was written, a note Head and some blocks survive every
+/// stop, and these are among the CIDs that a sweep keeps, then every stop in its course leaves the Head and the
+/// blocks, and so does every stop after it.
 pub fn what_is_kept_survives_a_sweep()
     ensures during { (t : Contents) (head : List ℕ) (blocks : List Held) (kept : List Cid) (held : HeldMap)
         (notes : Notes)
