@@ -6,7 +6,8 @@
 # - `unixfs add -r` against `git add` that makes each object stable, `cp -r` with `sync`, and, where they are installed,
 #   `ostree commit` and `restic backup`; `unixfs get` against `git checkout`, `cp -r`, `ostree checkout` and `restic restore`
 # - `unixfs add -r -n` against `find -exec sha256sum`
-# Each finds the same machine: the folder that it makes stood there before, and was removed just now.
+# Nothing is removed until the end: ext4 goes one by one over the inodes that were let go in the last seconds, which took more
+# than all else.
 # The aims: `add -r` of the small folder takes less time than `git add`, and `add -r -n` at most 1.2 of the user time of
 # `sha256sum`.
 # CORE says which core (the last one if unset), FOLDER on which disk (that of the temporary files if unset), and FOLDERS which of
@@ -35,15 +36,17 @@ for n in range(4):
 PYTHON
 sync -f .
 
+# Gives a folder another name, out of the way.
+put_away() {
+    [ ! -e "$1" ] || mv "$1" "$(mktemp -d -p .)/"
+}
+
 # A store or a repository in a folder of its own.
 ready() {
-    rm -rf work
+    put_away work
     mkdir work
     case $1 in
-    unixfs)
-        (cd work && "$UNIXFS" init)
-        cp -r "$2" work/copy
-        ;;
+    unixfs) (cd work && "$UNIXFS" init) ;;
     git)
         git -C work init -q
         git -C work config core.compression 0
@@ -53,7 +56,6 @@ ready() {
         git -C work config user.email bench@localhost
         cp -r "$2" work/files
         ;;
-    cp) cp -r "$2" work/again ;;
     ostree) ostree --repo=work/repo init --mode=archive ;;
     restic) restic -q -r work/repo init ;;
     esac
@@ -74,22 +76,20 @@ PYTHON
 
 # Hashes one of the two folders, adds it and gets it again.
 go_round() {
-    ready unixfs "$1"
+    ready unixfs
     measure "$1-hash:unixfs" "\"\$UNIXFS\" add -r -n ../$1 > ../hashed"
     measure "$1-hash:sha256sum" "find ../$1 -type f -exec sha256sum {} + > ../sums"
     measure "$1-add:unixfs" "\"\$UNIXFS\" add -r ../$1 > ../rows"
     cmp -s rows hashed
     cid=$(tail -n 1 rows | cut -d ' ' -f 2)
-    rm -rf work/copy
     measure "$1-get:unixfs" "\"\$UNIXFS\" get $cid copy && sync -f ."
     ready git "$1"
     measure "$1-add:git" 'git add files'
     git -C work commit -q -m files
-    rm -rf work/files
+    put_away work/files
     measure "$1-get:git" 'git checkout -q -- files && sync -f .'
-    ready cp "$1"
+    ready cp
     measure "$1-add:cp" "cp -r ../$1 copy && sync -f ."
-    rm -rf work/again
     measure "$1-get:cp" 'cp -r copy again && sync -f .'
     if command -v ostree > /dev/null; then
         ready ostree
