@@ -1,5 +1,5 @@
 //! Calls on the bytes of nodes, messages, names and Heads, and on groups of pieces.
-ghost use Rattle.std.specs.Prelude.{◌≡◌, ◌*◌, length, IsTrue};
+ghost use Rattle.std.specs.Prelude.{◌≡◌, ◌*◌, ◌<◌, ◌≤◌, ℕ, length, slice_index, IsTrue};
 ghost use Rattle.uf_tree.specs.Profiles.{is_profile};
 
 use sha2::{Digest, Sha256};
@@ -251,6 +251,66 @@ fn hash_group(bytes: &[u8], rest: &str, told: &mut Block) -> Result<(), Memory> 
     say_group(bytes, size_of(size), size_of(first), told)
 }
 
+// Seventeen lengths, each so much more than the one before it, up to 184 and then from 0 on.
+fn lengths_from(first: usize, step: usize) -> [usize; 17]
+    ensures { (k : ℕ) → k < 17 → slice_index result k ≤ 184 }
+{
+    let mut lengths = [0; 17];
+    let mut next = first % 185;
+    for k in 0..17 {
+        lengths[k] = next;
+        next = (next + step % 185) % 185;
+    }
+    lengths
+}
+
+// Whether blocks that are hashed where they lie, each at the head of a piece of 256 bytes, have the digests of each by
+// itself.
+fn agree_apart(bytes: &mut [u8], lengths: &[usize], out: &mut [[u8; 32]]) -> bool
+    requires pieces { length bytes.old ≡ length out.old * 256 }
+    requires lengths { length lengths.now ≡ length out.old }
+    requires short { (k : ℕ) → k < length out.old → slice_index lengths.now k ≤ 184 }
+{
+    Sha256Hash::block32_apart(bytes, 256, lengths, out);
+    for place in 0..out.len() {
+        let block = &bytes[place * 256..place * 256 + lengths[place]];
+        if out[place] != Sha256::digest(block) {
+            return false;
+        }
+    }
+    true
+}
+
+// Blocks of unlike lengths, of which there may be seventeen.
+fn say_apart(
+    input: &[u8],
+    first: usize,
+    step: usize,
+    count: usize,
+    told: &mut Block,
+) -> Result<(), Memory> {
+    if count > 17 || input.len() < 4352 {
+        return say(told, "too few bytes");
+    }
+    let mut bytes = [0u8; 4352];
+    bytes.copy_from_slice(&input[..4352]);
+    let mut digests = [[0u8; 32]; 17];
+    let lengths = lengths_from(first, step);
+    let is_so = agree_apart(
+        &mut bytes[..count * 256],
+        &lengths[..count],
+        &mut digests[..count],
+    );
+    say(told, if is_so { "agree" } else { "differ" })
+}
+
+fn hash_apart(bytes: &[u8], rest: &str, told: &mut Block) -> Result<(), Memory> {
+    let (first, rest) = number_and_rest(rest);
+    let (step, rest) = number_and_rest(rest);
+    let count = number_of(rest);
+    say_apart(bytes, size_of(first), size_of(step), size_of(count), told)
+}
+
 // Blocks that are read and written again.
 fn again(alloc: Global, word: &str, bytes: &[u8]) -> Option<Result<bool, StrictFault>> {
     match word {
@@ -285,6 +345,7 @@ pub fn call(input: &[u8], word: &str, rest: &str, told: &mut Block) -> Result<bo
     match word {
         "profile" => read_profile(rest, told)?,
         "group" => hash_group(input, rest, told)?,
+        "apart" => hash_apart(input, rest, told)?,
         _ => return Ok(false),
     }
     Ok(true)

@@ -9,6 +9,10 @@ use Rattle.sha2.specs.Sha256.{sha256, digest_bytes, final_hash, initial_hash_256
 abbrev pub piece : List ℕ → ℕ → ℕ → List ℕ
 piece buffer size k = take size (drop (k * size) buffer)
 
+-- the block at the head of piece k, where `lengths` has the length of each
+abbrev pub block_in : List ℕ → ℕ → List ℕ → ℕ → List ℕ
+block_in buffer size lengths k = take (slice_index lengths k) (piece buffer size k)
+
 -- every number is a byte
 abbrev pub IsBytes : List ℕ → Type 0
 IsBytes bytes = AllByRecursion (λ b. b < 256) bytes

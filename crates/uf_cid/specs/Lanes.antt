@@ -24,3 +24,11 @@ part_of d size j at n = take n (drop (j * size + at) d)
 -- t begins with what follows the whole blocks of m, of length n, in its padded message (section 5.1.1)
 abbrev pub IsTail : List ℕ → ℕ → List ℕ → Type 0
 IsTail m n t = take (n % 64 + ((119 - n % 64) % 64 + 1) + 8) t ≡ drop (n / 64 * 64) (padded_message m)
+
+-- how many blocks of 64 bytes a message of n bytes has, its padding included (section 5.1.1)
+abbrev pub blocks_of : ℕ → ℕ
+blocks_of n = (n + 8) / 64 + 1
+
+-- the message in the first n bytes of t is followed by its padding (section 5.1.1)
+abbrev pub IsPadded : ℕ → List ℕ → Type 0
+IsPadded n t = take (64 * blocks_of n) t ≡ padded_message (take n t)

@@ -1,10 +1,11 @@
 //! The hash that names a block.
-ghost use Rattle.std.specs.Prelude.{◌≡◌, ◌*◌, ◌%◌, ◌<◌, ◌≤◌, ℕ, List, [], length, slice_index_or, sum};
+ghost use Rattle.std.specs.Prelude.{◌≡◌, ◌+◌, ◌*◌, ◌%◌, ◌<◌, ◌≤◌, ℕ, List, [], length, sum};
+ghost use Rattle.std.specs.Prelude.{slice_index, slice_index_or};
 ghost use Rattle.sha2.specs.Sha256.{sha256};
 ghost use Rattle.sha2.proofs.Facts256.{length-sha256};
-ghost use Rattle.uf_cid.specs.Bytes.{IsBytes, piece, sha256_is_bytes};
+ghost use Rattle.uf_cid.specs.Bytes.{IsBytes, block_in, piece, sha256_is_bytes};
 
-use crate::lanes::sha256_pieces;
+use crate::lanes::{sha256_apart, sha256_pieces};
 use sha2::{Digest, Sha256};
 
 /// A function from a block to its digest of 32 bytes.
@@ -28,6 +29,23 @@ pub trait BlockHash {
         }
     }
 
+    /// Writes the digest of the block at the head of each piece of `size` bytes of a buffer to its place in `out`.
+    /// What follows a block in its piece may be overwritten.
+    fn block32_apart(bytes: &mut [u8], size: usize, lengths: &[usize], out: &mut [[u8; 32]])
+        requires pieces { length bytes.old ≡ length out.old * size }
+        requires lengths { length lengths.now ≡ length out.old }
+        requires room { (k : ℕ) → k < length out.old → slice_index lengths.now k + 72 ≤ size }
+        ensures length { length out.new ≡ length out.old }
+        ensures digests { (k : ℕ) → k < length out.old
+            → slice_index_or out.new k [] ≡ block32 (block_in bytes.old size lengths.now k) }
+        ensures kept { (k : ℕ) → k < length out.old
+            → block_in bytes.new size lengths.now k ≡ block_in bytes.old size lengths.now k }
+    {
+        for i in 0..out.len() {
+            out[i] = Self::block32(&bytes[i * size..i * size + lengths[i]]);
+        }
+    }
+
     // A digest has 32 bytes.
     ghost size: { (block : List ℕ) → length (block32 block) ≡ 32 };
 
@@ -46,7 +64,8 @@ pub fn digests_of<X: BlockHash>(bytes: &[u8], size: usize, count: usize) -> [[u8
     digests
 }
 
-/// SHA-256 (FIPS 180-4), as the crate `sha2` promises it. Pieces of one size are hashed eight at a time, side by side.
+/// SHA-256 (FIPS 180-4), as the crate `sha2` promises it. Pieces of one size, and blocks that lie in such pieces, are
+/// hashed eight at a time, side by side.
 pub struct Sha256Hash;
 
 impl BlockHash for Sha256Hash {
@@ -62,6 +81,10 @@ impl BlockHash for Sha256Hash {
 
     fn block32_group(bytes: &[u8], size: usize, out: &mut [[u8; 32]]) {
         sha256_pieces(bytes, size, out)
+    }
+
+    fn block32_apart(bytes: &mut [u8], size: usize, lengths: &[usize], out: &mut [[u8; 32]]) {
+        sha256_apart(bytes, size, lengths, out)
     }
 }
 

@@ -1,34 +1,75 @@
 //! Blocks that are read before they are loaded.
-ghost use Rattle.std.specs.Prelude.{◌≡◌, ◌<◌, ◌≤◌, ◌*◌, ℕ, [], IfSome, IsTrue, length, slice_index_or, vec_len};
-ghost use Rattle.uf_cid.specs.Bytes.{piece};
+ghost use Rattle.std.specs.Prelude.{◌≡◌, ◌<◌, ◌≤◌, ◌+◌, ◌*◌, ℕ, [], IfSome, IsTrue, length, vec_len};
+ghost use Rattle.std.specs.Prelude.{slice_index, slice_index_or};
+ghost use Rattle.uf_cid.specs.Bytes.{block_in};
 ghost use Rattle.uf_disk.specs.Ahead.{IsWholeFor};
 
-use crate::folder::Folder;
+use crate::folder::{Folder, PADDING};
 use std::alloc::Global;
 use std::fs::Files;
 use std::marker::PhantomData;
 use std::random::RandomSource;
-use uf_cid::{BlockHash, Cid, Codec, digests_of};
+use uf_cid::{BlockHash, Cid, Codec};
 
 /// How many blocks are read ahead at most, which are hashed side by side.
 const GROUP: usize = 8;
 
-/// How many bytes they have at most.
-const MOST_AHEAD: usize = 8388608;
+/// How many bytes their pieces have at most: eight blocks of 1 MiB, and an eighth more.
+const MOST_AHEAD: usize = 9438272;
 
-/// The bytes of the files of some blocks, all of one length, one after another, and their digests.
+// Which blocks lie in a buffer, each at the head of a piece of `size` bytes, and how long they are.
+#[derive(Clone, Copy)]
+struct Pieces {
+    cids: [Cid; 8],
+    lengths: [usize; 8],
+    size: usize,
+    count: usize,
+    ghost few: { count ≤ 8 },
+    ghost room: { (k : ℕ) → k < count → slice_index lengths k + 72 ≤ size },
+    ghost short: { (k : ℕ) → k < count → slice_index lengths k ≤ 2097152 },
+}
+
+impl Pieces {
+    // No blocks.
+    fn new(size: usize) -> Self
+        ensures none { result.count ≡ 0 }
+        ensures size { result.size ≡ size }
+    {
+        Pieces {
+            cids: [Cid {
+                codec: Codec::Raw,
+                digest: [0u8; 32],
+            }; 8],
+            lengths: [0; 8],
+            size,
+            count: 0,
+        }
+    }
+
+    // Notes one block more.
+    fn push(&mut self, cid: &Cid, count: usize)
+        requires few { self.old.count < 8 }
+        requires room { count + 72 ≤ self.old.size }
+        requires short { count ≤ 2097152 }
+        ensures more { self.new.count ≡ self.old.count + 1 }
+        ensures size { self.new.size ≡ self.old.size }
+    {
+        self.cids[self.count] = *cid;
+        self.lengths[self.count] = count;
+        self.count += 1;
+    }
+}
+
+/// The bytes of the files of some blocks, one after another, and their digests.
 #[derive(Drop)]
 pub struct Ahead<X: BlockHash> {
     hash: PhantomData<X>,
-    cids: [Cid; 8],
+    pieces: Pieces,
     bytes: Vec<u8>,
-    size: usize,
-    count: usize,
     digests: [[u8; 32]; 8],
-    ghost inside: { length bytes.items ≡ count * size },
-    ghost few: { count ≤ 8 },
-    ghost small: { size ≤ 2097152 },
-    ghost hashed: { (k : ℕ) → k < count → slice_index_or digests k [] ≡ X.block32 (piece bytes.items size k) },
+    ghost inside: { length bytes.items ≡ pieces.count * pieces.size },
+    ghost hashed: { (k : ℕ) → k < pieces.count
+        → slice_index_or digests k [] ≡ X.block32 (block_in bytes.items pieces.size pieces.lengths k) },
 }
 
 impl<X: BlockHash> Ahead<X> {
@@ -36,17 +77,15 @@ impl<X: BlockHash> Ahead<X> {
     pub fn new(alloc: Global) -> Self {
         Ahead {
             hash: PhantomData,
-            cids: no_cids(),
+            pieces: Pieces::new(0),
             bytes: Vec::new(alloc),
-            size: 0,
-            count: 0,
             digests: [[0u8; 32]; 8],
         }
     }
 
     /// Reads the files of the first of these blocks in the place of those that are here, but where the first one is
-    /// here. A file of another length than the first one's, or one that can't be read, is left out with those after
-    /// it.
+    /// here. A file that is less than half as long as the first one's, or longer by more than an eighth, or one that
+    /// can't be read, is left out with those after it.
     pub fn read<R: Files + RandomSource>(&mut self, folder: &Folder<R>, cids: &[Cid]) {
         let Some(first) = cids.first() else {
             return;
@@ -54,20 +93,22 @@ impl<X: BlockHash> Ahead<X> {
         if self.place_of(first).is_some() {
             return;
         }
-        let mut found = no_cids();
-        let (count, size) = gather(folder, cids, &mut self.bytes, &mut found);
-        self.digests = digests_of::<X>(&self.bytes, size, count);
-        self.cids = found;
-        self.count = count;
-        self.size = size;
+        let length = folder.length_of_block(first);
+        let pieces = gather(folder, cids, length, &mut self.bytes);
+        self.digests = digests_in::<X>(
+            &mut self.bytes,
+            pieces.size,
+            &pieces.lengths[..pieces.count],
+        );
+        self.pieces = pieces;
     }
 
     /// Lets go of the blocks that are here.
     pub fn forget(&mut self)
-        ensures { self.new.count ≡ 0 }
+        ensures { self.new.pieces.count ≡ 0 }
     {
         self.bytes.clear();
-        self.count = 0;
+        self.pieces = Pieces::new(0);
     }
 
     /// Copies a block that is here and has its CID's digest into a buffer: whether it did.
@@ -77,20 +118,20 @@ impl<X: BlockHash> Ahead<X> {
         let Some(place) = self.place_of(cid) else {
             return false;
         };
-        let at = place * self.size;
+        let at = place * self.pieces.size;
         buffer.clear();
         buffer
-            .extend_from_slice(&self.bytes[at..at + self.size])
+            .extend_from_slice(&self.bytes[at..at + self.pieces.lengths[place]])
             .is_ok()
     }
 
     // The place of a block that has its CID's digest.
     fn place_of(&self, cid: &Cid) -> Option<usize>
-        ensures inside { IfSome result (λ k. k < self.now.count) }
+        ensures inside { IfSome result (λ k. k < self.now.pieces.count) }
         ensures digest { IfSome result (λ k. slice_index_or self.now.digests k [] ≡ cid.now.digest) }
     {
-        for place in 0..self.count {
-            if self.cids[place] == *cid && self.digests[place] == cid.digest {
+        for place in 0..self.pieces.count {
+            if self.pieces.cids[place] == *cid && self.digests[place] == cid.digest {
                 return Some(place);
             }
         }
@@ -98,41 +139,50 @@ impl<X: BlockHash> Ahead<X> {
     }
 }
 
-// CIDs of nothing.
-fn no_cids() -> [Cid; 8] {
-    [Cid {
-        codec: Codec::Raw,
-        digest: [0u8; 32],
-    }; 8]
+// The digests of the blocks at the heads of at most eight pieces.
+fn digests_in<X: BlockHash>(bytes: &mut [u8], size: usize, lengths: &[usize]) -> [[u8; 32]; 8]
+    requires pieces { length bytes.old ≡ length lengths.now * size }
+    requires few { length lengths.now ≤ 8 }
+    requires room { (k : ℕ) → k < length lengths.now → slice_index lengths.now k + 72 ≤ size }
+    ensures digests { (k : ℕ) → k < length lengths.now
+        → slice_index_or result k [] ≡ X.block32 (block_in bytes.new size lengths.now k) }
+    ensures len { length result ≡ 8 }
+{
+    let mut digests = [[0u8; 32]; 8];
+    X::block32_apart(bytes, size, lengths, &mut digests[..lengths.len()]);
+    digests
 }
 
-// Reads the files of at most eight blocks, one after another, as far as they are as long as the first one's, and notes
-// their CIDs: how many, and how long they are.
+// How long the pieces of blocks are, of which the first one has so many bytes: with room for an eighth more.
+fn size_of_piece(first: usize) -> usize
+    requires { first ≤ 2097152 }
+    ensures { result ≤ 4194304 }
+{
+    (first + first / 8 + PADDING).div_ceil(64) * 64
+}
+
+// Reads the files of at most eight blocks, each to the head of a piece, as far as they are about as long as the first
+// one, which has so many bytes.
 fn gather<R: Files + RandomSource>(
     folder: &Folder<R>,
     cids: &[Cid],
+    first: usize,
     bytes: &mut Vec<u8>,
-    found: &mut [Cid; 8],
-) -> (usize, usize)
-    ensures inside { vec_len bytes.new ≡ result.0 * result.1 }
-    ensures few { result.0 ≤ 8 }
-    ensures small { result.1 ≤ 2097152 }
+) -> Pieces
+    requires { first ≤ 2097152 }
+    ensures { vec_len bytes.new ≡ result.count * result.size }
 {
     bytes.clear();
-    let mut count = 0;
-    let mut is_alike = true;
-    let size = match cids.first() {
-        Some(cid) => folder.length_of_block(cid),
-        None => 0,
-    };
+    let size = size_of_piece(first);
+    let mut pieces = Pieces::new(size);
     for at in 0..cids.len().min(GROUP) {
-        is_alike = is_alike
-            && bytes.len() + size <= MOST_AHEAD
-            && folder.append_block(&cids[at], size, bytes);
-        if is_alike {
-            found[count] = cids[at];
-            count += 1;
+        if bytes.len() + size > MOST_AHEAD {
+            break;
         }
+        let Some(count) = folder.append_block(&cids[at], first / 2, size, bytes) else {
+            break;
+        };
+        pieces.push(&cids[at], count);
     }
-    (count, size)
+    pieces
 }

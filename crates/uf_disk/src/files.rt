@@ -68,21 +68,23 @@ pub fn read_file<R: Files>(
     Ok(())
 }
 
-/// Reads n bytes of a file after those of a buffer.
+/// Puts n bytes of a file at the head of a piece of `size` bytes after those of a buffer. Zeros follow them.
 pub fn append_from<R: Files>(
     files: &R,
     path: &str,
+    count: usize,
     size: usize,
     buffer: &mut Vec<u8>,
 ) -> Result<(), Trouble>
-    requires small { size ≤ 2097152 }
+    requires inside { count ≤ size }
+    requires small { size ≤ 4194304 }
     ensures ok { OnOk result (vec_len buffer.new ≡ vec_len buffer.old + size) }
     ensures more { vec_len buffer.old ≤ vec_len buffer.new }
 {
     let before = buffer.len();
     buffer.resize(before + size, 0)?;
     let mut file = fs::open(files, path)?;
-    file.read_exact(&mut buffer[before..])?;
+    file.read_exact(&mut buffer[before..before + count])?;
     Ok(())
 }
 

@@ -28,8 +28,8 @@ enum StoreCall {
     Syncs(Put),
     Reads(Note, NoteState),
     Writes(Put),
-    // The blocks `a` and `b` are foreseen.
-    Foresees,
+    // These blocks are foreseen.
+    Foresees(&'static [&'static [u8]]),
     // All goes but for these blocks.
     Sweeps(&'static [&'static [u8]], Swept),
     // A text is put in the place of the file of the block `a`, or the file is made too long, or a folder stands there.
@@ -37,6 +37,8 @@ enum StoreCall {
     Lengthens,
     Blocks,
     Frees,
+    // The file of the first of these blocks gets the bytes of the second.
+    Damages(&'static [u8], &'static [u8]),
     // The file of the block `a` is moved into its own folder, as an earlier run may have done.
     Files,
     // A file of another name stands beside the blocks, and it is still there.
@@ -110,17 +112,49 @@ const CLEARS: [StoreCall; 4] = [
 const FORESEES: [StoreCall; 13] = [
     StoreCall::Saves(b"a", Save::Done),
     StoreCall::Saves(b"b", Save::Done),
-    StoreCall::Foresees,
+    StoreCall::Foresees(&[b"a", b"b"]),
     StoreCall::Spoils,
     StoreCall::Loads(b"a", Load::Found),
     StoreCall::Lends(b"a"),
     StoreCall::Loads(b"b", Load::Found),
     StoreCall::Lends(b"b"),
     StoreCall::Anew,
-    StoreCall::Foresees,
+    StoreCall::Foresees(&[b"a", b"b"]),
     StoreCall::Loads(b"a", Load::Damaged),
     StoreCall::Saves(b"a", Save::Done),
     StoreCall::Loads(b"a", Load::Found),
+];
+
+// So are blocks of unlike lengths: one that is damaged before isn't found, and those that are damaged later are.
+const UNLIKE: [StoreCall; 19] = [
+    StoreCall::Saves(b"01234567", Save::Done),
+    StoreCall::Saves(b"012345678", Save::Done),
+    StoreCall::Saves(b"0123456789", Save::Done),
+    StoreCall::Saves(b"0123456789a", Save::Done),
+    StoreCall::Saves(b"0123456789ab", Save::Done),
+    StoreCall::Saves(b"0123456789abc", Save::Done),
+    StoreCall::Saves(b"0123456789abcd", Save::Done),
+    StoreCall::Saves(b"0123456789abcde", Save::Done),
+    StoreCall::Damages(b"0123456789", b"0123456780"),
+    StoreCall::Foresees(&[
+        b"01234567",
+        b"012345678",
+        b"0123456789",
+        b"0123456789a",
+        b"0123456789ab",
+        b"0123456789abc",
+        b"0123456789abcd",
+        b"0123456789abcde",
+    ]),
+    StoreCall::Damages(b"01234567", b"x"),
+    StoreCall::Damages(b"0123456789abcde", b"x"),
+    StoreCall::Loads(b"01234567", Load::Found),
+    StoreCall::Lends(b"01234567"),
+    StoreCall::Loads(b"0123456789", Load::Damaged),
+    StoreCall::Loads(b"012345678", Load::Found),
+    StoreCall::Loads(b"0123456789abcde", Load::Found),
+    StoreCall::Lends(b"0123456789abcde"),
+    StoreCall::Sweeps(&[b"a", b"b"], Swept::Done(8)),
 ];
 
 // A sweep takes away what isn't kept, also what was foreseen, and leaves what is no block's file.
@@ -128,7 +162,7 @@ const SWEEPS: [StoreCall; 19] = [
     StoreCall::Saves(b"a", Save::Done),
     StoreCall::Saves(b"b", Save::Done),
     StoreCall::Adds,
-    StoreCall::Foresees,
+    StoreCall::Foresees(&[b"a", b"b"]),
     StoreCall::Loads(b"b", Load::Found),
     StoreCall::Sweeps(&[b"b"], Swept::Done(1)),
     StoreCall::Lends(b""),
@@ -156,7 +190,7 @@ const FILED: [StoreCall; 16] = [
     StoreCall::Syncs(Put::Done),
     StoreCall::Files,
     StoreCall::Anew,
-    StoreCall::Foresees,
+    StoreCall::Foresees(&[b"a", b"b"]),
     StoreCall::Loads(b"a", Load::Found),
     StoreCall::Spoils,
     StoreCall::Anew,
@@ -239,13 +273,14 @@ fn text_at(path: &BlockPath) -> io::Result<&str> {
     }
 }
 
-// The path of the file of the block `a`, which is in its own folder where one is there.
-fn path_of_a<R: Files>(files: &R) -> io::Result<BlockPath> {
-    let filed = BlockPath::new(&cid_of_raw::<Sha256Hash>(b"a"), BlockPlace::Filed);
+// The path of the file of a block, which is in its own folder where one is there.
+fn path_of<R: Files>(files: &R, block: &[u8]) -> io::Result<BlockPath> {
+    let cid = cid_of_raw::<Sha256Hash>(block);
+    let filed = BlockPath::new(&cid, BlockPlace::Filed);
     if let Ok(true) = fs::exists(files, text_at(&filed)?) {
         return Ok(filed);
     }
-    Ok(BlockPath::new(&cid_of_raw::<Sha256Hash>(b"a"), BlockPlace::Late))
+    Ok(BlockPath::new(&cid, BlockPlace::Late))
 }
 
 // Moves the file of the block `a` into its own folder.
@@ -264,7 +299,7 @@ fn files_a<R: Files>(files: &R) -> io::Result<()> {
 
 // Does what is done with the files.
 fn sets<R: Files>(alloc: Global, files: &R, step: &StoreCall) -> io::Result<bool> {
-    let path = path_of_a(files)?;
+    let path = path_of(files, b"a")?;
     let path = text_at(&path)?;
     match step {
         StoreCall::Spoils => fs::write(files, path, "b")?,
@@ -274,6 +309,9 @@ fn sets<R: Files>(alloc: Global, files: &R, step: &StoreCall) -> io::Result<bool
             fs::create_dir(files, path)?;
         }
         StoreCall::Frees => fs::remove_dir(files, path)?,
+        StoreCall::Damages(block, bytes) => {
+            fs::write(files, text_at(&path_of(files, *block)?)?, *bytes)?;
+        }
         StoreCall::Files => files_a(files)?,
         StoreCall::Adds => fs::write(files, BESIDE, "text")?,
         StoreCall::IsThere => return fs::exists(files, BESIDE),
@@ -294,10 +332,21 @@ fn saves<X: BlockHash, L: Ledger, R: Files + RandomSource>(
     bytes: &[u8],
     touches: &mut Steps<L>,
 ) -> Save {
-    if bytes.len() > 2 {
+    if bytes.len() > 64 {
         return Save::Failed;
     }
     store.save(&cid_of_raw::<X>(bytes), bytes, touches)
+}
+
+// The CIDs of these blocks.
+fn cids_of<X: BlockHash>(alloc: Global, blocks: &[&[u8]]) -> io::Result<Cids> {
+    let mut cids = Cids::new(alloc);
+    for bytes in blocks {
+        if cids.push(cid_of_raw::<X>(*bytes)).is_err() {
+            return Err(io::Error::from(io::ErrorKind::OutOfMemory));
+        }
+    }
+    Ok(cids)
 }
 
 // Sweeps all away but for these blocks.
@@ -306,13 +355,7 @@ fn sweeps<X: BlockHash, R: Files + RandomSource>(
     store: &mut DiskStore<X, &R>,
     blocks: &[&[u8]],
 ) -> io::Result<Swept> {
-    let mut kept = Cids::new(alloc);
-    for bytes in blocks {
-        if kept.push(cid_of_raw::<X>(*bytes)).is_err() {
-            return Err(io::Error::from(io::ErrorKind::OutOfMemory));
-        }
-    }
-    Ok(store.sweep(&kept))
+    Ok(store.sweep(&cids_of::<X>(alloc, blocks)?))
 }
 
 // Whether a step goes so.
@@ -333,7 +376,7 @@ fn goes<'a, X: BlockHash, L: Ledger, R: Files + RandomSource>(
         }
         StoreCall::Lends(bytes) => return Ok(store.block() == *bytes),
         StoreCall::Saves(bytes, answer) => return Ok(saves(store, *bytes, touches) == *answer),
-        StoreCall::Foresees => store.foresee(&[cid_of_raw::<X>(b"a"), cid_of_raw::<X>(b"b")]),
+        StoreCall::Foresees(blocks) => store.foresee(cids_of::<X>(alloc, *blocks)?.as_slice()),
         StoreCall::Sweeps(kept, answer) => return Ok(sweeps(alloc, store, *kept)? == *answer),
         StoreCall::Syncs(answer) => return Ok(store.sync() == *answer),
         StoreCall::Reads(which, text) => return Ok(text_of(store.read_note(*which)) == *text),
@@ -441,7 +484,7 @@ fn outcome_by<L: Ledger, R: Files + RandomSource>(
     alloc: Global,
     files: &R,
     blank: Blank,
-) -> io::Result<([bool; 8], Option<u64>, Option<u64>)>
+) -> io::Result<([bool; 9], Option<u64>, Option<u64>)>
     requires name { blank.name ≡ L.name }
     requires parts { blank.parts ≡ L.parts }
     requires some { 0 < blank.parts }
@@ -451,6 +494,7 @@ fn outcome_by<L: Ledger, R: Files + RandomSource>(
     let mends = are_right::<Sha256Hash, L, R>(alloc, files, &MENDS, &mut touches)?;
     let clears = are_right::<Sha256Hash, L, R>(alloc, files, &CLEARS, &mut touches)?;
     let foresees = are_right::<Sha256Hash, L, R>(alloc, files, &FORESEES, &mut touches)?;
+    let unlike = are_right::<Sha256Hash, L, R>(alloc, files, &UNLIKE, &mut touches)?;
     let sweeps = are_right::<Sha256Hash, L, R>(alloc, files, &SWEEPS, &mut touches)?;
     let filed = are_right::<Sha256Hash, L, R>(alloc, files, &FILED, &mut touches)?;
     let lost_by_sweep = first_lost_by_sweep(alloc, files, &mut touches)?;
@@ -459,7 +503,7 @@ fn outcome_by<L: Ledger, R: Files + RandomSource>(
     let refuses = are_right::<Sha256Hash, L, R>(alloc, files, &REFUSES, &mut touches)?;
     Ok((
         [
-            keeps, mends, clears, foresees, sweeps, filed, clashes, refuses,
+            keeps, mends, clears, foresees, unlike, sweeps, filed, clashes, refuses,
         ],
         lost_by_sweep,
         lost,
@@ -469,7 +513,7 @@ fn outcome_by<L: Ledger, R: Files + RandomSource>(
 fn outcome<R: Files + RandomSource>(
     alloc: Global,
     files: &R,
-) -> io::Result<([bool; 8], Option<u64>, Option<u64>)> {
+) -> io::Result<([bool; 9], Option<u64>, Option<u64>)> {
     outcome_by::<Brand, R>(alloc, files, Blank::new(1))
 }
 
@@ -477,7 +521,7 @@ fn outcome<R: Files + RandomSource>(
 fn a_store_keeps_mends_clears_foresees_sweeps_clashes_refuses_and_survives(
     rt: HostRuntime,
 ) -> io::Result<()> {
-    assert_eq!(rt; outcome(rt.alloc(), &rt)?, ([true; 8], None, None));
+    assert_eq!(rt; outcome(rt.alloc(), &rt)?, ([true; 9], None, None));
     Ok(())
 }
 

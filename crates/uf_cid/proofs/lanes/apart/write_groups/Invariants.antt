@@ -1,0 +1,8 @@
+use Rattle.std.proofs.Common.{◌≡◌, ℕ, ◌*◌, ◌<◌, [], length, slice_index_or}
+use Rattle.sha2.specs.Sha256.{sha256}
+use Rattle.uf_cid.specs.Bytes.{block_in}
+use Rattle.uf_cid.proofs.lanes.apart.write_groups.Given as goal
+
+abbrev pub invariant-groups : goal.invariant-groups
+invariant-groups l = (length l.out ≡ length l.fn.out)
+    × ((k : ℕ) → k < 8 * l.g → slice_index_or l.out k [] ≡ sha256 (block_in l.bytes l.size l.lengths k))
