@@ -153,7 +153,7 @@ fn digests_in<X: BlockHash>(bytes: &mut [u8], size: usize, lengths: &[usize]) ->
     digests
 }
 
-// How long the pieces of blocks are, of which the first one has so many bytes: with room for an eighth more.
+// How long the pieces of blocks are, of which the first one has this length: with room for an eighth more.
 fn size_of_piece(first: usize) -> usize
     requires { first ≤ 2097152 }
     ensures { result ≤ 4194304 }
@@ -162,7 +162,7 @@ fn size_of_piece(first: usize) -> usize
 }
 
 // Reads the files of at most eight blocks, each to the head of a piece, as far as they are about as long as the first
-// one, which has so many bytes.
+// one, which has this length.
 fn gather<R: Files + RandomSource>(
     folder: &Folder<R>,
     cids: &[Cid],

@@ -12,7 +12,7 @@ use super::{PADDING, digest, hash_value, initial_state};
 use sha2::{Digest, Sha256};
 use std::simd::u32x8;
 
-// Writes its padding behind the message that ends at byte `end` of its piece (section 5.1.1).
+// Writes its padding after the message that ends at byte `end` of its piece (section 5.1.1).
 fn pad(piece: &mut [u8], end: usize)
     requires { end + 72 ≤ length piece.old }
     ensures padded { IsPadded end piece.new }
@@ -24,7 +24,7 @@ fn pad(piece: &mut [u8], end: usize)
     piece[end + marked..end + marked + 8].copy_from_slice(&bit_len.to_be_bytes());
 }
 
-// Writes the padding of each message behind it.
+// Writes the padding of each message after it.
 fn pad_all(bytes: &mut [u8], size: usize, lengths: &[usize])
     requires pieces { length bytes.old ≡ length lengths.now * size }
     requires room { (k : ℕ) → k < length lengths.now → slice_index lengths.now k + 72 ≤ size }
@@ -67,7 +67,7 @@ fn note_ended(state: &[u32x8; 8], lengths: &[usize], count: usize, out: &mut [[u
     }
 }
 
-// The digests of eight messages, of which each has its padding behind it.
+// The digests of eight messages, of which each has its padding after it.
 fn sha256_group(bytes: &[u8], size: usize, lengths: &[usize]) -> [[u8; 32]; 8]
     requires pieces { length bytes.now ≡ 8 * size }
     requires lengths { length lengths.now ≡ 8 }
