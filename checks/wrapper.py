@@ -169,6 +169,10 @@ def by_parts(it):
     it.is_("a kit with its functions", (it.use()[:2], it.asked()),
            ((3, b"low 10\n"), ["lib uf_low", "lib uf_mid", "run uf_tool"]))
     it.is_("libraries of statements", it.sh("cat crates/uf_mid/out/rlib/stamp", "top"), "of statements: True")
+    it.write("bin/rtlib.py", PARTS.replace("flags, anew):", "how):"))
+    it.sh("rm -rf ../cache crates/*/out ../bin/__pycache__", "top")
+    it.is_("a kit whose functions have other parameters", (it.use()[:2], it.asked()),
+           ((3, b"low 10\n"), ["lib uf_low", "lib uf_mid", "run uf_tool"]))
     it.sh("rm -rf bin/rtlib.py bin/__pycache__ cache top/crates/*/out")
     it.use()
     it.asked()

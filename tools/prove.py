@@ -5,7 +5,7 @@
 
 A library is made of its statements, which the crates above load at once; `rt lib` makes it whole, with its proofs, and each
 crate above loads them anew. The sum of a crate's sources is made once, and not once for each way that leads down to it. On a
-kit whose parts have other names, and where `rt` is no part of a kit, this runs `rt` itself.
+kit whose functions have other names or parameters, and where `rt` is no part of a kit, this runs `rt` itself.
 """
 
 import functools
@@ -42,17 +42,25 @@ def make_library(parts, jobs):
     return status
 
 
-def main():
-    """Does what is asked; the status."""
-    verb, jobs, words = sys.argv[1], sys.argv[2], sys.argv[3:]
-    parts = kit()
-    if parts is None:
-        os.execvp("rt", ["rt", verb, "--jobs", jobs, *(["--", *words] if words else [])])
+def by_parts(parts, verb, jobs, words):
+    """Does it with the kit's own functions; the status."""
     parts.guarded()
     parts.Crate.stamp = functools.lru_cache(maxsize=None)(parts.Crate.stamp)
     if verb == "lib":
         return make_library(parts, jobs)
     return parts.main(verb, "--jobs", jobs, "--", *words)
+
+
+def main():
+    """Does what is asked; the status."""
+    verb, jobs, words = sys.argv[1], sys.argv[2], sys.argv[3:]
+    parts = kit()
+    if parts is not None:
+        try:
+            return by_parts(parts, verb, jobs, words)
+        except (AttributeError, StopIteration, TypeError) as error:
+            print(f"prove: the kit's functions are others than these ({error}), so rt itself is asked", flush=True)
+    return os.execvp("rt", ["rt", verb, "--jobs", jobs, *(["--", *words] if words else [])])
 
 
 sys.exit(main())
