@@ -20,6 +20,7 @@ use Rattle.uf_top.proofs.BatchReplies.{finds-of, held-of, host-same, outside-of,
 use Rattle.uf_top.proofs.Counted.{none-then, rose-not-stood}
 use Rattle.uf_cid.specs.declared.cid.Cid.{Cid}
 use Rattle.uf_top.proofs.Pins.{noted-pins}
+use Rattle.uf_top.proofs.Ran.{line-ran}
 use Rattle.uf_headline.specs.Batched.{AreOfLines, asked_by, outside_line, with_last, with_word}
 use Rattle.uf_headline.specs.History.{History, IsDone, Step, step_of, told_after, told_before}
 use Rattle.uf_headline.proofs.Doing.{after_step, step-stands}
@@ -57,7 +58,7 @@ module _ (X : List ℕ → List ℕ) (N : List ℕ → ℕ) (host : HostTree) wh
     asks-line s held on blocks = by done.asks
       where
         replies : EndsAs (Said a.errors b.errors) X N done.asked (line_world host s held (noted-pins a.around.store.told).0) given a.around.held b.around.held b.around.store.told b.around.host.told
-        replies = done.runs.replies (line_world host s held (noted-pins a.around.store.told).0) (finds-of X N host line given a b done s held on.1 blocks) (outside-of X N host line given a b done s held on.0 h.host) (quiet-of X N host line given a b done h)
+        replies = (line-ran done).replies (line_world host s held (noted-pins a.around.store.told).0) (finds-of X N host line given a b done s held on.1 blocks) (outside-of X N host line given a b done s held on.0 h.host) (quiet-of X N host line given a b done h)
 
         wanted : done.asked ≡ Err no_memory → EndsAs (Said a.errors b.errors) X N done.asked (line_world host s held (noted-pins a.around.store.told).0) given a.around.held b.around.held b.around.store.told b.around.host.told → ⊥
         wanted is (inl wants) = memory wants.status_is
@@ -131,7 +132,7 @@ module _ (X : List ℕ → List ℕ) (N : List ℕ → ℕ) (host : HostTree) wh
 
   cut-not : (line : List ℕ) (given : Status) (a b : Scene) → LineCut X N line given a b → NothingFails a.around b.around → ⊥
   cut-not line given a b e h =
-      rose-not-stood e.printed.faults b.around.writes e.cut.counted (fails-last a.around (with_sinks e.printed e.between b).around b.around e.done.runs.faults.counted (cut-counted (mark e.was) e.printed e.between b e.cut) h).output
+      rose-not-stood e.printed.faults b.around.writes e.cut.counted (fails-last a.around (with_sinks e.printed e.between b).around b.around (line-ran e.done).faults.counted (cut-counted (mark e.was) e.printed e.between b e.cut) h).output
 
   module _ (given : Status) (memory : given ≢ status.Memory) (b : Scene) where
     -- the end
@@ -142,7 +143,7 @@ module _ (X : List ℕ → List ℕ) (N : List ℕ → ℕ) (host : HostTree) wh
     ends-steps ByMemory a s e on h = no-steps a b e.same
     ends-steps (AtLine line) a s (inl e) on h =
         behind-step line [] a (before-mark e.printed b) b b refl
-        (line-step line given a (before-mark e.printed b) e.done memory (fails-first a.around (before-mark e.printed b).around b.around e.done.runs.faults.counted (last-counted X N line given a b e) h) s on)
+        (line-step line given a (before-mark e.printed b) e.done memory (fails-first a.around (before-mark e.printed b).around b.around (line-ran e.done).faults.counted (last-counted X N line given a b e) h) s on)
         (no-steps b b refl)
     ends-steps (AtLine line) a s (inr e) on h = absurd (cut-not line given a b e h)
 
@@ -150,7 +151,7 @@ module _ (X : List ℕ → List ℕ) (N : List ℕ → ℕ) (host : HostTree) wh
     passed-step : (line : List ℕ) (a c : Scene) (s : Standing) (p : LinePassed X N line a c) → NoneFalls c.around b.around → GoesOn a s → NothingFails a.around b.around → StepOf line a (before-mark p.printed c)
     passed-step line a c s p late on h =
         line-step line p.given a (before-mark p.printed c) p.done (goes-on-not p.given p.goes_on)
-        (fails-first a.around (before-mark p.printed c).around c.around p.done.runs.faults.counted (whole-counted (mark p.given) p.printed c.errors c p.marked) (fails-first a.around c.around b.around (gone-counted X N line a c (inr p)) late h)) s on
+        (fails-first a.around (before-mark p.printed c).around c.around (line-ran p.done).faults.counted (whole-counted (mark p.given) p.printed c.errors c p.marked) (fails-first a.around c.around b.around (gone-counted X N line a c (inr p)) late h)) s on
 
     module _ (ending : Ending X N) (m : Scene) (ends : EndsSo X N ending given m b) where
       late-counted : (lines : List (List ℕ)) (c : Scene) → LinesDone X N lines c m → NoneFalls c.around b.around

@@ -29,7 +29,8 @@ use Rattle.uf_store.specs.declared.store.Write.{Write}
 use Rattle.uf_top.specs.Around.{HasOutside, StandsOrRose, StaysQuiet}
 use Rattle.uf_top.specs.Batch.{Said}
 use Rattle.uf_top.specs.Endings.{may_move}
-use Rattle.uf_top.specs.Losing.{EndsOver, words_need}
+use Rattle.uf_top.specs.Losing.{EndsOver}
+use Rattle.uf_top.proofs.Ran.{words_need}
 use Rattle.uf_top.specs.Naming.{FindsWorld, StandsNamed, StaysNamed}
 use Rattle.uf_top.specs.Outcomes.{EachStop, IsSafeFor, LeavesEither, LeavesTree}
 use Rattle.uf_top.specs.Reply.{Outside, in_world, reply_to, world_of}
@@ -47,6 +48,7 @@ use Rattle.uf_headline.specs.Calls.{AllCallOver, AllHappen, AreDone, Calls, Call
 use Rattle.uf_headline.specs.History.{IsDone, Step, told_after, told_before}
 use Rattle.uf_headline.specs.Replies.{entries_replied, replied_by, standing_replied}
 use Rattle.uf_headline.proofs.Histories.{replied-stands, reply-next}
+use Rattle.uf_headline.proofs.Stepped.{step-ran}
 
 -- ---- counts
 
@@ -85,15 +87,15 @@ module _ (X : List ℕ → List ℕ) (N : List ℕ → ℕ) where
     module _ (g : Status) (given : Given g) (store : g ≡ status.StoreFault → ⊥) (clash : g ≡ status.Clash → ⊥) (memory : g ≡ status.Memory → ⊥) where
       calm : Calm step.before.around.store step.now.around.store
       calm = record {
-        faults = stood-still _ _ c.runs.faults.counted.store.faults (λ more. not-both step.given g status.StoreFault given (c.runs.faults.store more) store) c.tells.store.faults;
-        clashes = stood-still _ _ c.runs.faults.counted.store.clashes (λ more. not-one step.given g status.Clash status.Memory given clash memory (c.runs.faults.clashes more)) c.tells.store.clashes;
+        faults = stood-still _ _ (step-ran X N step c.runs).faults.counted.store.faults (λ more. not-both step.given g status.StoreFault given ((step-ran X N step c.runs).faults.store more) store) c.tells.store.faults;
+        clashes = stood-still _ _ (step-ran X N step c.runs).faults.counted.store.clashes (λ more. not-one step.given g status.Clash status.Memory given clash memory ((step-ran X N step c.runs).faults.clashes more)) c.tells.store.clashes;
       }
 
       module _ (read : g ≡ status.ReadFault → ⊥) where
         outside : HasOutside step.asked step.outside step.before.around step.now.around
         outside = (
-          λ reads. ((c.tells.input reads).0, stood-still _ _ c.runs.faults.counted.reads (λ more. not-both step.given g status.ReadFault given (c.runs.faults.reads (inl more)) read) (c.tells.input reads).1),
-          λ uses. ((c.tells.host uses).0, stood-still _ _ c.runs.faults.counted.host_reads (λ more. not-both step.given g status.ReadFault given (c.runs.faults.reads (inr more)) read) (c.tells.host uses).1),
+          λ reads. ((c.tells.input reads).0, stood-still _ _ (step-ran X N step c.runs).faults.counted.reads (λ more. not-both step.given g status.ReadFault given ((step-ran X N step c.runs).faults.reads (inl more)) read) (c.tells.input reads).1),
+          λ uses. ((c.tells.host uses).0, stood-still _ _ (step-ran X N step c.runs).faults.counted.host_reads (λ more. not-both step.given g status.ReadFault given ((step-ran X N step c.runs).faults.reads (inr more)) read) (c.tells.host uses).1),
           c.tells.pins,
         )
 
@@ -101,8 +103,8 @@ module _ (X : List ℕ → List ℕ) (N : List ℕ → ℕ) where
         quiet write = record {
           store = calm;
           written = record {
-            output = wrote-none _ _ c.runs.faults.counted.writes (λ more. not-both step.given g status.WriteFault given (c.runs.faults.writes (inl more)) write) c.tells.output;
-            host = λ writes. stood-still _ _ c.runs.faults.counted.host_writes (λ more. not-both step.given g status.WriteFault given (c.runs.faults.writes (inr more)) write) (c.tells.written writes);
+            output = wrote-none _ _ (step-ran X N step c.runs).faults.counted.writes (λ more. not-both step.given g status.WriteFault given ((step-ran X N step c.runs).faults.writes (inl more)) write) c.tells.output;
+            host = λ writes. stood-still _ _ (step-ran X N step c.runs).faults.counted.host_writes (λ more. not-both step.given g status.WriteFault given ((step-ran X N step c.runs).faults.writes (inr more)) write) (c.tells.written writes);
           };
           own = λ generates is. not-both step.given g status.Clash given is clash;
         }
@@ -131,7 +133,7 @@ module _ (X : List ℕ → List ℕ) (N : List ℕ → ℕ) where
       unprinted : of_command prints_after false step.asked ≡ true → Given status.WriteFault → Made
       unprinted prints given =
           subst (TellsAs X N (told_after step)) (reply-next X N step.asked step.outside step.held s)
-          (c.runs.unprinted (world_of s step.held step.outside) prints given finds (outside status.WriteFault given (λ e. cc) (λ e. cc) (λ e. cc) (λ e. cc))
+          ((step-ran X N step c.runs).unprinted (world_of s step.held step.outside) prints given finds (outside status.WriteFault given (λ e. cc) (λ e. cc) (λ e. cc) (λ e. cc))
           (calm status.WriteFault given (λ e. cc) (λ e. cc) (λ e. cc))).stands
 
       moves : (g : Status) → Given g → may_move step.asked g ≡ true → Made
@@ -152,7 +154,7 @@ module _ (X : List ℕ → List ℕ) (N : List ℕ → ℕ) where
         where
           by : (b : Bool) → may_move step.asked step.given ≡ b → TellsAs X N (told_after step) (cond b (replied_by X N step.asked step.outside step.held s) s)
           by true may = moves step.given refl may
-          by false may = stands-kept X N (told_before step) (told_after step) s c.runs.left.good (c.runs.left.head may) t
+          by false may = stands-kept X N (told_before step) (told_after step) s (step-ran X N step c.runs).good ((step-ran X N step c.runs).head may) t
 
   -- ---- calls
 
@@ -211,7 +213,7 @@ module _ (X : List ℕ → List ℕ) (N : List ℕ → ℕ) where
       whole-stands = subst (TellsAs X N (Some whole)) after-tree.1 (subst (λ x. TellsAs X N x (after_call X N step (Stands p es))) last (call-stands step c (Stands p es) before-stands))
 
       written : WritesFor X step.asked (is_done step.given) (Some a) (Some whole)
-      written = subst (λ x. WritesFor X step.asked (is_done step.given) x (Some whole)) first (subst (λ x. WritesFor X step.asked (is_done step.given) (told_before step) x) last c.runs.left.writes)
+      written = subst (λ x. WritesFor X step.asked (is_done step.given) x (Some whole)) first (subst (λ x. WritesFor X step.asked (is_done step.given) (told_before step) x) last (step-ran X N step c.runs).writes)
 
       ends : IsSafeFor X N whole p next × EachStop (LeavesEither X N p es p next) a whole
       ends = words-end X N hash small a p p es next safe step.asked (is_done step.given) whole written whole-stands
@@ -285,10 +287,10 @@ module _ (X : List ℕ → List ℕ) (N : List ℕ → ℕ) where
     stays = record { names = names; last = agrees }
 
     kept-names : may_move step.asked step.given ≡ false → NamesOver X N (told_after step) p es
-    kept-names may = record { head = subst (λ n. IsHeadNote n p (entry X N p (Dir es)).cid) (sym (c.runs.left.head may)) names.head; root = record { plan = names.root.plan; agrees = agrees } }
+    kept-names may = record { head = subst (λ n. IsHeadNote n p (entry X N p (Dir es)).cid) (sym ((step-ran X N step c.runs).head may)) names.head; root = record { plan = names.root.plan; agrees = agrees } }
 
     done-names : step.given ≡ status.Ok → NamesTree X N (told_after step) (replied_by X N step.asked step.outside step.held (Stands p es))
-    done-names given = by (c.runs.lost p es rows.0 step.held step.outside stays c.held rows.1 (ok-outside step c given) (ok-quiet step c given))
+    done-names given = by ((step-ran X N step c.runs).lost p es rows.0 step.held step.outside stays c.held rows.1 (ok-outside step c given) (ok-quiet step c given))
       where
         rows : (rows : ℕ → ℕ) × AreHeights p rows
         rows = heights-of p names.root.plan.profile

@@ -11,3 +11,4 @@ pub mod Opened
 pub mod Places
 pub mod Rooted
 pub mod Versions
+pub mod Stepped

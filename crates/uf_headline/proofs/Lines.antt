@@ -17,6 +17,7 @@ use Rattle.uf_top.specs.BatchLines.{AllCanRise}
 use Rattle.uf_top.specs.Naming.{TellsBlocks}
 use Rattle.uf_top.proofs.LineHosts.{Suits, asks-suits}
 use Rattle.uf_top.proofs.Pins.{noted-pins}
+use Rattle.uf_top.proofs.Ran.{line-ran}
 use Rattle.uf_headline.specs.Batched.{AreCallsOf, IsOfLine, outside_line, with_last}
 use Rattle.uf_headline.specs.Calls.{Calls, IsCall}
 use Rattle.uf_headline.specs.History.{Step, step_of, told_after, told_before}
@@ -93,16 +94,16 @@ module _ (X : List ℕ → List ℕ) (N : List ℕ → ℕ) (host : HostTree) wh
     -- where the batch goes on, no count rose
     begins-next : ends_batch given ≡ false → Begins b
     begins-next on = record {
-      told = done.runs.left.host suits.1 ∙ begin.told;
+      told = (line-ran done).host suits.1 ∙ begin.told;
       room = record {
         store = record {
-          faults = rises-still _ _ done.runs.faults.counted.store.faults (λ more. goes-on given status.StoreFault on refl (done.runs.faults.store more)) begin.room.store.faults;
-          clashes = rises-still _ _ done.runs.faults.counted.store.clashes (λ more. either-not status.Clash status.Memory (goes-on given status.Clash on refl) (goes-on given status.Memory on refl) (done.runs.faults.clashes more)) begin.room.store.clashes;
+          faults = rises-still _ _ (line-ran done).faults.counted.store.faults (λ more. goes-on given status.StoreFault on refl ((line-ran done).faults.store more)) begin.room.store.faults;
+          clashes = rises-still _ _ (line-ran done).faults.counted.store.clashes (λ more. either-not status.Clash status.Memory (goes-on given status.Clash on refl) (goes-on given status.Memory on refl) ((line-ran done).faults.clashes more)) begin.room.store.clashes;
         };
-        output = wrote-still _ _ done.runs.faults.counted.writes (λ more. goes-on given status.WriteFault on refl (done.runs.faults.writes (inl more))) begin.room.output;
-        host = rises-still _ _ done.runs.faults.counted.host_reads (λ more. goes-on given status.ReadFault on refl (done.runs.faults.reads (inr more))) begin.room.host;
+        output = wrote-still _ _ (line-ran done).faults.counted.writes (λ more. goes-on given status.WriteFault on refl ((line-ran done).faults.writes (inl more))) begin.room.output;
+        host = rises-still _ _ (line-ran done).faults.counted.host_reads (λ more. goes-on given status.ReadFault on refl ((line-ran done).faults.reads (inr more))) begin.room.host;
       };
-      some = done.runs.left.good.alike ∙ begin.some;
+      some = (line-ran done).good.alike ∙ begin.some;
     }
 
   -- ---- all lines

@@ -42,6 +42,7 @@ use Rattle.uf_headline.proofs.Afresh.{afresh-prints, stat-prints}
 use Rattle.uf_headline.proofs.Doing.{after_step, if_done, left-is, made_by, not-done, step-stands, tells-head}
 use Rattle.uf_headline.proofs.Histories.{replied}
 use Rattle.uf_headline.proofs.OnHost.{on-host}
+use Rattle.uf_headline.proofs.Stepped.{step-ran}
 
 nothing : {A : Type 0} → false ≡ true → A
 nothing e = absurd cc
@@ -232,11 +233,11 @@ module _ (X : List ℕ → List ℕ) (N : List ℕ → ℕ) where
     where
       by : Keeps step.asked ⊎ Takes step.asked → TellsAs X N (told_after step) (after_step step s)
       by (inl k) = subst (TellsAs X N (told_after step)) (sym (left-kept step.given step.asked k step.outside step.held s))
-          (stands-kept X N (told_before step) (told_after step) s r.runs.left.good (k.head X (is_done step.given) (told_before step) (told_after step) r.runs.left.writes) t)
+          (stands-kept X N (told_before step) (told_after step) s (step-ran X N step r.runs).good (k.head X (is_done step.given) (told_before step) (told_after step) (step-ran X N step r.runs).writes) t)
       by (inr m) = step-stands X N step (done-by step r (m.outside step.outside step.before.around step.now.around r.well.takes) m.host m.own) s t
 
   ran-new : (step : Step) → RanWell X N step → IsNew (head_in (told_before step)) → IsNew (head_in (told_after step))
-  ran-new step r n = asked-new X step.asked (is_done step.given) (told_before step) (told_after step) r.runs.left.writes n
+  ran-new step r n = asked-new X step.asked (is_done step.given) (told_before step) (told_after step) (step-ran X N step r.runs).writes n
 
   all-stand : (steps : List Step) (a b : Told) (s : Standing) → TellsAs X N a s → InTurn (RanWell X N) steps a b → TellsAs X N b (standing_after tree_at steps s)
   all-stand [] a b s t h = subst (λ x. TellsAs X N x s) (sym h) t

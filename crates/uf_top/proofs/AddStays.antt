@@ -18,20 +18,20 @@ use Rattle.uf_top.proofs.Stopped.{add-stops}
 
 module _ (X : List ℕ → List ℕ) (N : List ℕ → ℕ) (Says : List ℕ → Type 0) (before now : Around) (a b : Contents) (was : before.store.told ≡ Some a) (is : now.store.told ≡ Some b) (plain : IsPlain a) where
   -- what was printed, over these contents
-  abbrev Printed : Result Command Refusal → Type 0
-  Printed asked = PrintsAt (IsTextOf X N (Some a) (Some b) before.host.told asked before.left) false status.Ok before.held now.held
+  abbrev Printed : Command → Type 0
+  Printed command = PrintsAt (IsTextOf X N (Some a) (Some b) before.host.told command before.left) false status.Ok before.held now.held
 
-  printed : (asked : Result Command Refusal) → PrintsAt (IsTextOf X N before.store.told now.store.told before.host.told asked before.left) false status.Ok before.held now.held → Printed asked
-  printed asked h =
-      subst (λ (told : Told). PrintsAt (IsTextOf X N (Some a) told before.host.told asked before.left) false status.Ok before.held now.held) is
-      (subst (λ (told : Told). PrintsAt (IsTextOf X N told now.store.told before.host.told asked before.left) false status.Ok before.held now.held) was h)
+  printed : (command : Command) → PrintsAt (IsTextOf X N before.store.told now.store.told before.host.told command before.left) false status.Ok before.held now.held → Printed command
+  printed command h =
+      subst (λ (told : Told). PrintsAt (IsTextOf X N (Some a) told before.host.told command before.left) false status.Ok before.held now.held) is
+      (subst (λ (told : Told). PrintsAt (IsTextOf X N told now.store.told before.host.told command before.left) false status.Ok before.held now.held) was h)
 
   synced : SyncsAfter X before.store.told now.store.told → SyncsAfter X (Some a) (Some b)
   synced h = subst (λ (told : Told). SyncsAfter X (Some a) told) is (subst (λ (told : Told). SyncsAfter X told now.store.told) was h)
 
   pub input-stays : Runs Says X N (Ok (Add false)) status.Ok before now → KeepsInput X before now a b
   input-stays runs =
-      let p = printed (Ok (Add false)) runs.printed.text in
+      let p = printed (Add false) runs.printed.text in
       record {
         text = p.0;
         row = p.1;
@@ -41,7 +41,7 @@ module _ (X : List ℕ → List ℕ) (N : List ℕ → ℕ) (Says : List ℕ →
 
   pub hosted-stays : (recursive : Bool) (path : List ℕ) → Runs Says X N (Ok (AddFrom recursive false path)) status.Ok before now → KeepsHosted X N recursive path before now a b
   hosted-stays recursive path runs =
-      let p = printed (Ok (AddFrom recursive false path)) runs.printed.text in
+      let p = printed (AddFrom recursive false path) runs.printed.text in
       record {
         text = p.0;
         rows = p.1;

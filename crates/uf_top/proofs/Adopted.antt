@@ -99,7 +99,7 @@ tree-kind (mfs.Store f) w is = subst (λ w. graft_kinds (refusal_kind w) ≡ tru
 record IsGrafting (source : DagPath) (dest : Path) (told : Told) (l m : streams.Told) (i : ℕ) (why : Refusal) : Type 0 where
   other : refusal_kind why ≢ OfWrite
   ends : may_close adopt_kinds (refusal_kind why) ≡ true
-  rule : status_of why ≡ status.Rule → RuleOf (Ok (Adopt source dest)) why told l m
+  rule : status_of why ≡ status.Rule → RuleOf (Adopt source dest) why told l m
   reads : Counts (is_read {A = Unit {0}} (Err why)) i i
 
 module _ (source : DagPath) (dest : Path) (told : Told) (l m : streams.Told) (i : ℕ) where

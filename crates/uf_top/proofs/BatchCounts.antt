@@ -8,6 +8,7 @@ use Rattle.uf_top.specs.Around.{Around, NoneFalls}
 use Rattle.uf_top.specs.Batch.{AtLine, ByMemory, ByReading, EndsSo, Ending, LineEnds, LineGone, LinePassed, LinesDone, PrintsCut, PrintsWhole, Scene, SinkSide, TooLong, WithInput, output_of, with_sinks}
 use Rattle.uf_top.specs.BatchReplies.{NothingFails}
 use Rattle.uf_top.proofs.Counted.{none-same, none-then, rises-refl, stood-first, stood-last}
+use Rattle.uf_top.proofs.Ran.{line-ran}
 
 -- ---- what fails in a part fails in the whole
 
@@ -56,7 +57,7 @@ is-write-fault status.NotReady = inr (λ e. cc)
 module _ (X : List ℕ → List ℕ) (N : List ℕ → ℕ) where
   pub passed-counted : (line : List ℕ) (a b : Scene) → LinePassed X N line a b → NoneFalls a.around b.around
   passed-counted line a b passed =
-      none-then a.around (with_sinks passed.printed b.errors b).around b.around passed.done.runs.faults.counted (whole-counted (mark passed.given) passed.printed b.errors b passed.marked)
+      none-then a.around (with_sinks passed.printed b.errors b).around b.around (line-ran passed.done).faults.counted (whole-counted (mark passed.given) passed.printed b.errors b passed.marked)
 
   pub gone-counted : (line : List ℕ) (a b : Scene) → LineGone X N line a b → NoneFalls a.around b.around
   gone-counted line a b (inl none) = none-same a.around b.around (ap (λ (s : Scene). s.around) none.1)
@@ -83,5 +84,5 @@ module _ (X : List ℕ → List ℕ) (N : List ℕ → ℕ) where
   ends-counted TooLong given a b e = none-same a.around b.around e.same
   ends-counted ByReading given a b e = none-same a.around b.around e.same
   ends-counted ByMemory given a b e = none-same a.around b.around e.same
-  ends-counted (AtLine line) given a b (inl e) = none-then a.around (with_sinks e.printed b.errors b).around b.around e.done.runs.faults.counted (last-counted line given a b e)
-  ends-counted (AtLine line) given a b (inr e) = none-then a.around (with_sinks e.printed e.between b).around b.around e.done.runs.faults.counted (cut-counted (mark e.was) e.printed e.between b e.cut)
+  ends-counted (AtLine line) given a b (inl e) = none-then a.around (with_sinks e.printed b.errors b).around b.around (line-ran e.done).faults.counted (last-counted line given a b e)
+  ends-counted (AtLine line) given a b (inr e) = none-then a.around (with_sinks e.printed e.between b).around b.around (line-ran e.done).faults.counted (cut-counted (mark e.was) e.printed e.between b e.cut)

@@ -11,7 +11,8 @@ use Rattle.uf_command.specs.declared.types.Refusal.TheVariants as refusal
 use Rattle.uf_top.specs.Around.{Around}
 use Rattle.uf_top.specs.Batch.{AtLine, Batches, ByMemory, ByReading, Ending, EndsSo, LineCut, LineEnds, LineGone, LinePassed, LinesDone, ReadingFails, Said, Scene, Tells, TooLong, WithInput, with_sinks, without_input}
 use Rattle.uf_top.specs.BatchLines.{EndsAtLine, PassesNoneOver}
-use Rattle.uf_top.specs.Running.{Runs}
+use Rattle.uf_top.specs.Running.{TellsFaults}
+use Rattle.uf_top.proofs.Ran.{line-ran}
 
 -- no count has risen
 record Still (a b : Around) : Type 0 where
@@ -60,13 +61,13 @@ write-told Says given (inr t) = absurd (let e : false ≡ true = t.0 in cc)
 
 module _ (X : List ℕ → List ℕ) (N : List ℕ → ℕ) where
   -- nothing failed in a command after which a batch goes on
-  runs-still : (Says : List ℕ → Type 0) (asked : Result Command Refusal) (given : Status) (a b : Around) → Runs Says X N asked given a b → ends_batch given ≡ false → Still a b
-  runs-still Says asked given a b r on = record {
-    faults = not-less a.store.faults b.store.faults (λ less. other given status.StoreFault on refl (r.faults.store less));
-    clashes = not-less a.store.clashes b.store.clashes (λ less. clashed (r.faults.clashes less));
-    host_reads = not-less a.host.reads b.host.reads (λ less. other given status.ReadFault on refl (r.faults.reads (inr less)));
-    host_writes = not-less a.host.writes b.host.writes (λ less. other given status.WriteFault on refl (r.faults.writes (inr less)));
-    writes = not-less a.writes b.writes (λ less. other given status.WriteFault on refl (r.faults.writes (inl less)));
+  told-still : (given : Status) (a b : Around) → TellsFaults given a b → ends_batch given ≡ false → Still a b
+  told-still given a b tells on = record {
+    faults = not-less a.store.faults b.store.faults (λ less. other given status.StoreFault on refl (tells.store less));
+    clashes = not-less a.store.clashes b.store.clashes (λ less. clashed (tells.clashes less));
+    host_reads = not-less a.host.reads b.host.reads (λ less. other given status.ReadFault on refl (tells.reads (inr less)));
+    host_writes = not-less a.host.writes b.host.writes (λ less. other given status.WriteFault on refl (tells.writes (inr less)));
+    writes = not-less a.writes b.writes (λ less. other given status.WriteFault on refl (tells.writes (inl less)));
   }
     where
       clashed : (given ≡ status.Clash) ⊎ (given ≡ status.Memory) → ⊥
@@ -75,7 +76,7 @@ module _ (X : List ℕ → List ℕ) (N : List ℕ → ℕ) where
 
   passed-still : (line : List ℕ) (a b : Scene) → LinePassed X N line a b → Still a.around b.around
   passed-still line a b passed =
-      let s = runs-still (Said a.errors b.errors) passed.done.asked passed.given a.around (with_sinks passed.printed b.errors b).around passed.done.runs passed.goes_on in
+      let s = told-still passed.given a.around (with_sinks passed.printed b.errors b).around (line-ran passed.done).faults passed.goes_on in
       let e : b.around.writes ≡ passed.printed.faults = passed.marked.counted in
       let w : passed.printed.faults ≤ a.around.writes = s.writes in
       record { faults = s.faults; clashes = s.clashes; host_reads = s.host_reads; host_writes = s.host_writes; writes = omega (arith, e, w) }
@@ -107,16 +108,16 @@ module _ (X : List ℕ → List ℕ) (N : List ℕ → ℕ) where
 
   line-told : (line : List ℕ) (given : Status) (m b : Scene) → LineEnds X N line given m b → EndsTold (AtLine line) given m.around b.around
   line-told line given m b e = record {
-    failed = λ less. e.done.runs.faults.store less;
-    clashed = λ less. e.done.runs.faults.clashes less;
-    host_read = λ less. e.done.runs.faults.reads (inr less);
-    host_written = λ less. e.done.runs.faults.writes (inr less);
+    failed = λ less. (line-ran e.done).faults.store less;
+    clashed = λ less. (line-ran e.done).faults.clashes less;
+    host_read = λ less. (line-ran e.done).faults.reads (inr less);
+    host_written = λ less. (line-ran e.done).faults.writes (inr less);
     written = λ less. inr (line, refl, e.ends);
   }
 
   cut-told : (line : List ℕ) (given : Status) (m b : Scene) → LineCut X N line given m b → EndsTold (AtLine line) given m.around b.around
   cut-told line given m b e =
-      let s = runs-still (Said m.errors e.between) e.done.asked e.was m.around (with_sinks e.printed e.between b).around e.done.runs e.goes_on in
+      let s = told-still e.was m.around (with_sinks e.printed e.between b).around (line-ran e.done).faults e.goes_on in
       record {
         failed = λ less. absurd (let k : b.around.store.faults ≤ m.around.store.faults = s.faults in omega (arith, k, less));
         clashed = λ less. absurd (let k : b.around.store.clashes ≤ m.around.store.clashes = s.clashes in omega (arith, k, less));

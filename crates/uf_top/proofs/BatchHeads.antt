@@ -8,6 +8,7 @@ use Rattle.uf_top.specs.Around.{Around}
 use Rattle.uf_top.specs.Batch.{AtLine, Batches, ByMemory, ByReading, EndsSo, Ending, LineDone, LineGone, LinesDone, Scene, TooLong, WithInput, with_sinks, without_input}
 use Rattle.uf_top.specs.BatchLines.{IsBehind, LineOf, MovesByLine}
 use Rattle.uf_top.specs.Endings.{may_move}
+use Rattle.uf_top.proofs.Ran.{line-ran}
 
 module _ (X : List ℕ → List ℕ) (N : List ℕ → ℕ) where
   -- ---- lines of a batch with one line more in front
@@ -46,7 +47,7 @@ module _ (X : List ℕ → List ℕ) (N : List ℕ → ℕ) where
     where
       by : (may : Bool) → may_move done.asked given ≡ may → (head-of b ≡ head-of a) ⊎ (may_move done.asked given ≡ true)
       by true is = inr is
-      by false is = inl (done.runs.left.head is)
+      by false is = inl ((line-ran done).head is)
 
   abbrev Moves : List (List ℕ) → Ending X N → Scene → Told → Type 0
   Moves lines ending a now = (head_in now ≡ head-of a) ⊎ MovesByLine X N lines ending a now

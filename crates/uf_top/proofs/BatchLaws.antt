@@ -6,6 +6,7 @@ use Rattle.uf_command.specs.declared.status.Status.{Status}
 use Rattle.uf_command.specs.declared.types.Refusal.{Refusal}
 use Rattle.uf_top.specs.Around.{Around}
 use Rattle.uf_top.proofs.LineHosts.{asks-leaves}
+use Rattle.uf_top.proofs.Ran.{line-ran}
 use Rattle.uf_top.specs.Batch.{AtLine, Batches, ByMemory, ByReading, EndsSo, Ending, LineDone, LineGone, LinesDone, Scene, Tells, TooLong, WithInput, without_input}
 
 module _ (X : List ℕ → List ℕ) (N : List ℕ → ℕ) where
@@ -17,7 +18,7 @@ module _ (X : List ℕ → List ℕ) (N : List ℕ → ℕ) where
 
   gone-good : (line : List ℕ) (a b : Scene) → LineGone X N line a b → GoodStays a b
   gone-good line a b (inl none) = same-good a b none.1
-  gone-good line a b (inr passed) = passed.done.runs.left.good
+  gone-good line a b (inr passed) = (line-ran passed.done).good
 
   lines-good : (lines : List (List ℕ)) (a b : Scene) → LinesDone X N lines a b → GoodStays a b
   lines-good [] a b same = same-good a b same
@@ -31,8 +32,8 @@ module _ (X : List ℕ → List ℕ) (N : List ℕ → ℕ) where
   ends-good TooLong given a b e = tells-good _ given a b e
   ends-good ByReading given a b e = tells-good _ given a b e
   ends-good ByMemory given a b e = tells-good _ given a b e
-  ends-good (AtLine line) given a b (inl e) = e.done.runs.left.good
-  ends-good (AtLine line) given a b (inr e) = e.done.runs.left.good
+  ends-good (AtLine line) given a b (inl e) = (line-ran e.done).good
+  ends-good (AtLine line) given a b (inr e) = (line-ran e.done).good
 
   pub batch-good : (most limit : ℕ) (given : Status) (a b : Scene) → Batches X N most limit given a b → GoodStays a b
   batch-good most limit given a b did =
@@ -44,7 +45,7 @@ module _ (X : List ℕ → List ℕ) (N : List ℕ → ℕ) where
   HostStays a b = b.around.host.told ≡ a.around.host.told
 
   done-host : (line : List ℕ) (given : Status) (a b : Scene) → LineDone X N line given a b → HostStays a b
-  done-host line given a b done = done.runs.left.host (asks-leaves line done.asked done.asks)
+  done-host line given a b done = (line-ran done).host (asks-leaves line done.asked done.asks)
 
   gone-host : (line : List ℕ) (a b : Scene) → LineGone X N line a b → HostStays a b
   gone-host line a b (inl none) = ap (λ (s : Scene). s.around.host.told) none.1

@@ -20,7 +20,6 @@ use Rattle.uf_command.specs.declared.status.Status.TheVariants as status
 use Rattle.uf_command.specs.declared.types.Command.{Command}
 use Rattle.uf_command.specs.declared.types.Command.TheVariants.{Init, Add, AddFrom, WriteInput, At, Read, Cat, Get, Export, Import, Same, Adopt, Gen, AddTo, AddFromTo, Pin, Prove}
 use Rattle.uf_command.specs.declared.types.Refusal.{Refusal}
-use Rattle.uf_top.specs.Caused.{StatusShows}
 use Rattle.uf_top.specs.Around.{Around, CountsCanRise, HasOutside, NoneFalls, RoseAt, StaysQuiet}
 use Rattle.uf_top.specs.Batch.{AtLine, Batches, ByMemory, ByReading, EndsSo, Ending, LineCut, LineDone, LineEnds, LineGone, LinePassed, LinesDone, PrintsCut, PrintsWhole, ReadingFails, Said, Scene, SinkSide, TooLong, WithInput, output_of, with_sinks, without_input}
 use Rattle.uf_top.specs.BatchReplies.{BatchReplied, EndsReplied, GoesOnReplied, HasHeights, LineAnswered, LineReplied, LinesReplied, NothingFails, added_bounds, batch_bound, batch_printed, going_bound, going_printed, last_bound, last_printed, line_bound, line_printed, line_world, lines_bound, lines_printed, printed_by}
@@ -33,6 +32,7 @@ use Rattle.uf_top.proofs.Counted.{rose-not-stood}
 use Rattle.uf_top.proofs.LineHosts.{Suits, asks-suits}
 use Rattle.uf_top.proofs.Losing.{named-of}
 use Rattle.uf_top.proofs.Pins.{noted-pins, pins-good, pins-head}
+use Rattle.uf_top.proofs.Ran.{line-ran}
 use Rattle.uf_top.proofs.Standings.{stands-kept}
 
 -- ---- what stands after a command that suits a batch
@@ -122,31 +122,31 @@ module _ (X : List ℕ → List ℕ) (N : List ℕ → ℕ) where
     }
 
     pub host-same : b.around.host.told ≡ a.around.host.told
-    host-same = done.runs.left.host suits.1
+    host-same = (line-ran done).host suits.1
 
     pub finds-of : (s : Standing) (held : Lookup) → TellsAs X N a.around.store.told s → TellsBlocks a.around.store.told held → FindsWorld X N done.asked a.around.store.told (line_world host s held (noted-pins a.around.store.told).0)
     finds-of s held stands blocks = record { stands = if-needed (of_command needs_standing true done.asked) a.around.store.told s stands; held = blocks }
 
     pub stands-next : (s t : Standing) → (of_command needs_standing true done.asked ≡ false → t ≡ s) → TellsAs X N a.around.store.told s → StandsIf X N (of_command needs_standing true done.asked) b.around.store.told t
         → TellsAs X N b.around.store.told t
-    stands-next s t same stands now = stands-now (is_done given) s t a.around.store.told b.around.store.told done.asked suits done.runs.left.writes same stands now
+    stands-next s t same stands now = stands-now (is_done given) s t a.around.store.told b.around.store.told done.asked suits (line-ran done).writes same stands now
 
     module _ (tells : a.around.host.told ≡ Some host) (h : NothingFails a.around b.around) where
       touched : (s : Standing) → TellsAs X N a.around.store.told s → (rows : Profile → ℕ → ℕ) → HasHeights rows → IfSome (line_bound X N rows s done.asked) (λ most. b.around.touches ≤ a.around.touches + most)
       touched NoHead stands rows heights = tt
       touched BadHead stands rows heights = tt
       touched (Stands p es) stands rows heights =
-          done.runs.touched.most p es [] (rows p) (named-of X N a.around.store.told b.around.store.told p es stands done.runs.left.good) (λ reads. absurd (let e : true ≡ false = sym reads ∙ suits.0 in cc))
+          (line-ran done).touches p es [] (rows p) (named-of X N a.around.store.told b.around.store.told p es stands (line-ran done).good) (λ reads. absurd (let e : true ≡ false = sym reads ∙ suits.0 in cc))
           (heights p (profile-of a.around.store.told p es stands)) h.store
 
       room : CountsCanRise a.around.store
-      room = record { faults = omega (arith, done.runs.faults.counted.store.faults, h.store.faults); clashes = omega (arith, done.runs.faults.counted.store.clashes, h.store.clashes) }
+      room = record { faults = omega (arith, (line-ran done).faults.counted.store.faults, h.store.faults); clashes = omega (arith, (line-ran done).faults.counted.store.clashes, h.store.clashes) }
 
       names-over : (s : Standing) (held : Lookup) → TellsAs X N a.around.store.told s → TellsBlocks a.around.store.told held → FindsOver X N a.around.store.told b.around.store.told done.asked (line_world host s held (noted-pins a.around.store.told).0)
-      names-over s held stands blocks = record { names = names-if (of_command needs_standing true done.asked) a.around.store.told b.around.store.told s done.runs.left.good stands; held = blocks }
+      names-over s held stands blocks = record { names = names-if (of_command needs_standing true done.asked) a.around.store.told b.around.store.told s (line-ran done).good stands; held = blocks }
 
       prints-front : (s : Standing) (held : Lookup) → TellsAs X N a.around.store.told s → TellsBlocks a.around.store.told held → PrintsPart (reply_to X N done.asked (line_world host s held (noted-pins a.around.store.told).0)).ends a.around.held b.around.held
-      prints-front s held stands blocks = done.runs.printed.prefix (line_world host s held (noted-pins a.around.store.told).0) (names-over s held stands blocks) (outside-of s held tells h.host) room
+      prints-front s held stands blocks = (line-ran done).prefix (line_world host s held (noted-pins a.around.store.told).0) (names-over s held stands blocks) (outside-of s held tells h.host) room
 
       answered-by : (s : Standing) (held : Lookup) → TellsBlocks a.around.store.told held → TellsAs X N a.around.store.told s
           → EndsAs (Said a.errors b.errors) X N done.asked (line_world host s held (noted-pins a.around.store.told).0) given a.around.held b.around.held b.around.store.told b.around.host.told → (next : Standing) × LineAnswered X N host line given s next a b
@@ -163,7 +163,7 @@ module _ (X : List ℕ → List ℕ) (N : List ℕ → ℕ) where
           ends = inl wants;
           prints = prints-front s held stands blocks;
           next_is = inr (wants.status_is, refl);
-          moved = done.runs.left.pins;
+          moved = (line-ran done).pins;
           stands = stands-next s s (λ none. refl) stands wants.stands;
           touches = touched s stands;
         },
@@ -181,7 +181,7 @@ module _ (X : List ℕ → List ℕ) (N : List ℕ → ℕ) where
           ends = inr replies;
           prints = prints-front s held stands blocks;
           next_is = inl refl;
-          moved = done.runs.left.pins;
+          moved = (line-ran done).pins;
           stands = stands-next s (reply_to X N done.asked (line_world host s held (noted-pins a.around.store.told).0)).next (λ none. next-same done.asked (line_world host s held (noted-pins a.around.store.told).0) none) stands replies.0.stands;
           touches = touched s stands;
         },
@@ -191,11 +191,11 @@ module _ (X : List ℕ → List ℕ) (N : List ℕ → ℕ) where
       answered s stands = by (held-of a.around.store.told s stands)
         where
           by : ((held : Lookup) × TellsBlocks a.around.store.told held) → (next : Standing) × LineAnswered X N host line given s next a b
-          by h0 = answered-by s h0.0 h0.1 stands (done.runs.replies (line_world host s h0.0 (noted-pins a.around.store.told).0) (finds-of s h0.0 stands h0.1) (outside-of s h0.0 tells h.host) (quiet-of h))
+          by h0 = answered-by s h0.0 h0.1 stands ((line-ran done).replies (line_world host s h0.0 (noted-pins a.around.store.told).0) (finds-of s h0.0 stands h0.1) (outside-of s h0.0 tells h.host) (quiet-of h))
 
     -- no writing of the output failed
     pub wrote : Stood a.around.writes b.around.writes → given ≡ status.WriteFault → ⊥
-    wrote stood is = rose-not-stood a.around.writes b.around.writes (subst (λ u. RoseAt u a.around.writes b.around.writes a.around.host.writes b.around.host.writes) suits.1 (subst (StatusShows (Said a.errors b.errors) X N a.around b.around done.asked) is done.runs.answered.cause)) stood
+    wrote stood is = rose-not-stood a.around.writes b.around.writes (subst (λ u. RoseAt u a.around.writes b.around.writes a.around.host.writes b.around.host.writes) suits.1 ((line-ran done).written is)) stood
 
   -- ---- lines
 
@@ -213,7 +213,7 @@ module _ (X : List ℕ → List ℕ) (N : List ℕ → ℕ) where
 
     passed-replied : (line : List ℕ) (a b : Scene) (s : Standing) (p : LinePassed X N line a b) → GoesOn a s → NothingFails a.around b.around → (next : Standing) × LineReplied X N host line false p.given s next a b × GoesOn b next
     passed-replied line a b s p on h =
-        by (answered host line p.given a (before-mark p.printed b) p.done on.0 (fails-first a.around (before-mark p.printed b).around b.around p.done.runs.faults.counted (whole-counted (mark p.given) p.printed b.errors b p.marked) h) s on.1)
+        by (answered host line p.given a (before-mark p.printed b) p.done on.0 (fails-first a.around (before-mark p.printed b).around b.around (line-ran p.done).faults.counted (whole-counted (mark p.given) p.printed b.errors b p.marked) h) s on.1)
       where
         by : ((next : Standing) × LineAnswered X N host line p.given s next a (before-mark p.printed b)) → (next : Standing) × LineReplied X N host line false p.given s next a b × GoesOn b next
         by r = (r.0, record { printed = p.printed; answered = r.1; ends = p.goes_on; marked = p.marked }, (host-same host line p.given a (before-mark p.printed b) p.done ∙ on.0, r.1.stands))
@@ -249,16 +249,16 @@ module _ (X : List ℕ → List ℕ) (N : List ℕ → ℕ) where
         late = last-counted X N line given a b e
 
         early : NothingFails a.around (before-mark e.printed b).around
-        early = fails-first a.around (before-mark e.printed b).around b.around e.done.runs.faults.counted late h
+        early = fails-first a.around (before-mark e.printed b).around b.around (line-ran e.done).faults.counted late h
 
         by : ((next : Standing) × LineAnswered X N host line given s next a (before-mark e.printed b)) → PrintsWhole (mark given) e.printed (output_of b) ⊎ PrintsCut (mark given) e.printed (output_of b)
             → (next : Standing) × LineReplied X N host line true given s next a b × TellsAs X N b.around.store.told next
         by r (inl whole) = (r.0, record { printed = e.printed; answered = r.1; ends = e.ends; marked = whole }, r.1.stands)
-        by r (inr cut) = absurd (rose-not-stood e.printed.faults b.around.writes cut.counted (fails-last a.around (before-mark e.printed b).around b.around e.done.runs.faults.counted late h).output)
+        by r (inr cut) = absurd (rose-not-stood e.printed.faults b.around.writes cut.counted (fails-last a.around (before-mark e.printed b).around b.around (line-ran e.done).faults.counted late h).output)
 
     never-cut : (line : List ℕ) (given : Status) (a b : Scene) → LineCut X N line given a b → NothingFails a.around b.around → ⊥
     never-cut line given a b e h =
-        rose-not-stood e.printed.faults b.around.writes e.cut.counted (fails-last a.around (with_sinks e.printed e.between b).around b.around e.done.runs.faults.counted (cut-counted (mark e.was) e.printed e.between b e.cut) h).output
+        rose-not-stood e.printed.faults b.around.writes e.cut.counted (fails-last a.around (with_sinks e.printed e.between b).around b.around (line-ran e.done).faults.counted (cut-counted (mark e.was) e.printed e.between b e.cut) h).output
 
     ends-replied : (ending : Ending X N) (given : Status) (a b : Scene) (s : Standing) → EndsSo X N ending given a b → GoesOn a s → NothingFails a.around b.around → (ending ≡ ByReading → ⊥)
         → (next : Standing) × EndsReplied X N host ending given s next a b × TellsAs X N b.around.store.told next

@@ -56,6 +56,7 @@ use Rattle.uf_top.proofs.BatchReplies.{finds-of, held-of, host-same, next-same, 
 use Rattle.uf_top.proofs.Firm.{added-is, cut, firm-leaves, safe-firm}
 use Rattle.uf_top.proofs.LineHosts.{Suits, asks-suits}
 use Rattle.uf_top.proofs.Pins.{noted-pins, notes-wrote, syncs-wrote}
+use Rattle.uf_top.proofs.Ran.{line-ran}
 use Rattle.uf_top.proofs.Standings.{stands-kept}
 use Rattle.uf_top.proofs.Stopped.{words-end}
 
@@ -210,15 +211,15 @@ module _ (X : List ℕ → List ℕ) (N : List ℕ → ℕ) (host : HostTree) wh
 
     calm : Quiet given → Calm a.around.store b.around.store
     calm quiet = record {
-      faults = still-stood a.around.store.faults b.around.store.faults done.runs.faults.counted.store.faults (λ more. quiet.0 (done.runs.faults.store more)) begin.room.store.faults;
-      clashes = still-stood a.around.store.clashes b.around.store.clashes done.runs.faults.counted.store.clashes (λ more. never status.Clash quiet.2 quiet.1 (done.runs.faults.clashes more)) begin.room.store.clashes;
+      faults = still-stood a.around.store.faults b.around.store.faults (line-ran done).faults.counted.store.faults (λ more. quiet.0 ((line-ran done).faults.store more)) begin.room.store.faults;
+      clashes = still-stood a.around.store.clashes b.around.store.clashes (line-ran done).faults.counted.store.clashes (λ more. never status.Clash quiet.2 quiet.1 ((line-ran done).faults.clashes more)) begin.room.store.clashes;
     }
 
     host-read : Quiet given → Stood a.around.host.reads b.around.host.reads
-    host-read quiet = still-stood a.around.host.reads b.around.host.reads done.runs.faults.counted.host_reads (λ more. quiet.3 (done.runs.faults.reads (inr more))) begin.room.host
+    host-read quiet = still-stood a.around.host.reads b.around.host.reads (line-ran done).faults.counted.host_reads (λ more. quiet.3 ((line-ran done).faults.reads (inr more))) begin.room.host
 
     wrote-all : (given ≡ status.WriteFault → ⊥) → Stood a.around.writes b.around.writes
-    wrote-all other = still-wrote a.around.writes b.around.writes done.runs.faults.counted.writes (λ more. other (done.runs.faults.writes (inl more))) begin.room.output
+    wrote-all other = still-wrote a.around.writes b.around.writes (line-ran done).faults.counted.writes (λ more. other ((line-ran done).faults.writes (inl more))) begin.room.output
 
     nothing-fails : Quiet given → (given ≡ status.WriteFault → ⊥) → NothingFails a.around b.around
     nothing-fails quiet other = record { store = calm quiet; output = wrote-all other; host = host-read quiet }
@@ -226,11 +227,11 @@ module _ (X : List ℕ → List ℕ) (N : List ℕ → ℕ) (host : HostTree) wh
     room-later : Quiet given → (given ≡ status.WriteFault → ⊥) → AllCanRise b.around
     room-later quiet other = (let h = nothing-fails quiet other in record {
       store = record {
-        faults = rise-later a.around.store.faults b.around.store.faults done.runs.faults.counted.store.faults h.store.faults;
-        clashes = rise-later a.around.store.clashes b.around.store.clashes done.runs.faults.counted.store.clashes h.store.clashes;
+        faults = rise-later a.around.store.faults b.around.store.faults (line-ran done).faults.counted.store.faults h.store.faults;
+        clashes = rise-later a.around.store.clashes b.around.store.clashes (line-ran done).faults.counted.store.clashes h.store.clashes;
       };
-      output = rise-wrote a.around.writes b.around.writes done.runs.faults.counted.writes h.output;
-      host = rise-later a.around.host.reads b.around.host.reads done.runs.faults.counted.host_reads h.host;
+      output = rise-wrote a.around.writes b.around.writes (line-ran done).faults.counted.writes h.output;
+      host = rise-later a.around.host.reads b.around.host.reads (line-ran done).faults.counted.host_reads h.host;
     })
 
     -- ---- the tree after it
@@ -242,7 +243,7 @@ module _ (X : List ℕ → List ℕ) (N : List ℕ → ℕ) (host : HostTree) wh
     by-reply held now = (let r = reply-tree X N p es host held (noted-pins a.around.store.told).0 done.asked (asks-suits line done.asked done.asks) in (r.0, r.1, subst (TellsAs X N b.around.store.told) r.2 now))
 
     after-ok : given ≡ status.Ok → ((held : Lookup) × TellsBlocks a.around.store.told held) → NextTree
-    after-ok is h0 = by (done.runs.replies (line_world host (Stands p es) h0.0 (noted-pins a.around.store.told).0) (finds-of X N host line given a b done (Stands p es) h0.0 stands h0.1) (outside-of X N host line given a b done (Stands p es) h0.0 begin.host_told fails.host) (quiet-of X N host line given a b done fails))
+    after-ok is h0 = by ((line-ran done).replies (line_world host (Stands p es) h0.0 (noted-pins a.around.store.told).0) (finds-of X N host line given a b done (Stands p es) h0.0 stands h0.1) (outside-of X N host line given a b done (Stands p es) h0.0 begin.host_told fails.host) (quiet-of X N host line given a b done fails))
       where
         fails : NothingFails a.around b.around
         fails = nothing-fails (quiet-status given status.Ok is (λ e. cc, λ e. cc, λ e. cc, λ e. cc)) (λ e. (let k : status.Ok ≡ status.WriteFault = sym is ∙ e in cc))
@@ -258,7 +259,7 @@ module _ (X : List ℕ → List ℕ) (N : List ℕ → ℕ) (host : HostTree) wh
         quiet = quiet-status given status.WriteFault is (λ e. cc, λ e. cc, λ e. cc, λ e. cc)
 
         left : LeavesNext X N (reply_to X N done.asked (line_world host (Stands p es) h0.0 (noted-pins a.around.store.told).0)) b.around.store.told
-        left = done.runs.unprinted (line_world host (Stands p es) h0.0 (noted-pins a.around.store.told).0) after is (finds-of X N host line given a b done (Stands p es) h0.0 stands h0.1) (outside-of X N host line given a b done (Stands p es) h0.0 begin.host_told (host-read quiet)) (calm quiet)
+        left = (line-ran done).unprinted (line_world host (Stands p es) h0.0 (noted-pins a.around.store.told).0) after is (finds-of X N host line given a b done (Stands p es) h0.0 stands h0.1) (outside-of X N host line given a b done (Stands p es) h0.0 begin.host_told (host-read quiet)) (calm quiet)
 
     -- a status by which the line may move the Head
     after-moved : (is : Status) → given ≡ is → may_move done.asked is ≡ true → NextTree
@@ -275,7 +276,7 @@ module _ (X : List ℕ → List ℕ) (N : List ℕ → ℕ) (host : HostTree) wh
     after-moved status.NotReady is may = absurd cc
 
     next-tree : (head_in b.around.store.told ≡ head_in a.around.store.told) ⊎ (may_move done.asked given ≡ true) → NextTree
-    next-tree (inl same) = (p, es, stands-kept X N a.around.store.told b.around.store.told (Stands p es) done.runs.left.good same stands)
+    next-tree (inl same) = (p, es, stands-kept X N a.around.store.told b.around.store.told (Stands p es) (line-ran done).good same stands)
     next-tree (inr may) = after-moved given refl may
 
     -- ---- each stop in it
@@ -296,7 +297,7 @@ module _ (X : List ℕ → List ℕ) (N : List ℕ → ℕ) (host : HostTree) wh
       line-safe = by (next-tree (head-or X N line given a b done))
         where
           writes : (d : Contents) → b.around.store.told ≡ Some d → WritesFor X done.asked (is_done given) (Some c) (Some d)
-          writes d told = subst (λ t. WritesFor X done.asked (is_done given) t (Some d)) begin.told (subst (λ t. WritesFor X done.asked (is_done given) a.around.store.told t) told done.runs.left.writes)
+          writes d told = subst (λ t. WritesFor X done.asked (is_done given) t (Some d)) begin.told (subst (λ t. WritesFor X done.asked (is_done given) a.around.store.told t) told (line-ran done).writes)
 
           with-it : (q : Profile) (fs : Entries) → TellsAs X N b.around.store.told (Stands q fs) → ((d : Contents) × (b.around.store.told ≡ Some d)) → LineSafe
           with-it q fs now d0 =

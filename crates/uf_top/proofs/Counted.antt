@@ -10,7 +10,7 @@ use Rattle.uf_command.specs.declared.types.Command.{Command}
 use Rattle.uf_command.specs.declared.types.Refusal.{Refusal}
 use Rattle.uf_top.specs.Around.{Around, HostSide, NoneFalls, RisesFor, StandsOrRose, TakesHost, is_output_write}
 use Rattle.uf_top.specs.Causes.{IsBadIn, is_read, is_write}
-use Rattle.uf_top.specs.Working.{Serves}
+use Rattle.uf_top.specs.Working.{Does}
 
 -- ---- one count after the other
 
@@ -81,9 +81,8 @@ stands-or-rose true i j h = inr (h.rose refl)
 stands-or-rose false i j h = inl (h.still refl)
 
 module _ (X : List ℕ → List ℕ) (N : List ℕ → ℕ) (a b : Around) where
-  pub counted-of : (asked : Result Command Refusal) (done : Result (Unit {0}) Refusal) → Serves X N asked done a b → NoneFalls a b
-  counted-of (Err why) done s = none-same a b s.same
-  counted-of (Ok command) done s = record {
+  pub counted-of : (command : Command) (done : Result (Unit {0}) Refusal) → Does X N command done a b → NoneFalls a b
+  counted-of command done s = record {
     store = shown-rises X (IsBadIn X N a.store.told b.store.told) (refusal_fault done) a.store b.store s.cause;
     reads = s.reads.later;
     writes = stands-or-rose (is_output_write command done) a.writes b.writes s.writes;

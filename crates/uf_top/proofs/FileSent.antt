@@ -211,13 +211,13 @@ sent-prints IsText h h2 bytes is now done (ByStore f e) = subst (λ d. PrintsAt 
     by fault.Memory = (bytes, now)
 
 sent-rule : (offset count : ℕ) (path : Path) (told : Told) (l m : streams.Told) (done : Result (Unit {0}) Refusal) → SentKind done
-    → IfErr done (λ why. status_of why ≡ status.Rule → RuleOf (Ok (Read offset count path)) why told l m)
-sent-rule offset count path told l m done (Whole e) = subst (λ d. IfErr d (λ why. status_of why ≡ status.Rule → RuleOf (Ok (Read offset count path)) why told l m)) (sym e) tt
-sent-rule offset count path told l m done (ByRule rule e) = subst (λ d. IfErr d (λ why. status_of why ≡ status.Rule → RuleOf (Ok (Read offset count path)) why told l m)) (sym e) (λ is. (rule, refl))
-sent-rule offset count path told l m done (BySink e) = subst (λ d. IfErr d (λ why. status_of why ≡ status.Rule → RuleOf (Ok (Read offset count path)) why told l m)) (sym e) (λ is. absurd cc)
-sent-rule offset count path told l m done (ByStore f e) = subst (λ d. IfErr d (λ why. status_of why ≡ status.Rule → RuleOf (Ok (Read offset count path)) why told l m)) (sym e) (by f)
+    → IfErr done (λ why. status_of why ≡ status.Rule → RuleOf (Read offset count path) why told l m)
+sent-rule offset count path told l m done (Whole e) = subst (λ d. IfErr d (λ why. status_of why ≡ status.Rule → RuleOf (Read offset count path) why told l m)) (sym e) tt
+sent-rule offset count path told l m done (ByRule rule e) = subst (λ d. IfErr d (λ why. status_of why ≡ status.Rule → RuleOf (Read offset count path) why told l m)) (sym e) (λ is. (rule, refl))
+sent-rule offset count path told l m done (BySink e) = subst (λ d. IfErr d (λ why. status_of why ≡ status.Rule → RuleOf (Read offset count path) why told l m)) (sym e) (λ is. absurd cc)
+sent-rule offset count path told l m done (ByStore f e) = subst (λ d. IfErr d (λ why. status_of why ≡ status.Rule → RuleOf (Read offset count path) why told l m)) (sym e) (by f)
   where
-    by : (f : StoreFault) → status_of (refusal.Store f) ≡ status.Rule → RuleOf (Ok (Read offset count path)) (refusal.Store f) told l m
+    by : (f : StoreFault) → status_of (refusal.Store f) ≡ status.Rule → RuleOf (Read offset count path) (refusal.Store f) told l m
     by fault.Failed is = absurd cc
     by (fault.Damaged cid) is = absurd cc
     by (fault.Missing cid) is = absurd cc

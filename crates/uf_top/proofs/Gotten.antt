@@ -386,7 +386,7 @@ module _ (source : DagPath) (path : List ℕ) (f : HostFault) (why : Refusal) (i
 pub record IsRefused (why : Refusal) (told : Told) (source : DagPath) (path : List ℕ) (l : streams.Told) : Type 0 where
   pub kinds : may_close get_kinds (refusal_kind why) ≡ true
   pub ready : IsReadyBy told (Get source path) why
-  pub rule : status_of why ≡ status.Rule → RuleOf (Ok (Get source path)) why told l l
+  pub rule : status_of why ≡ status.Rule → RuleOf (Get source path) why told l l
   pub prints : (held : streams.Told) → PrintsAt (λ text. text ≡ []) false (status_of why) held held
   pub blames : IsBlaming (fault_behind why) → ⊥
 
@@ -453,7 +453,7 @@ module _ (X : List ℕ → List ℕ) (N : List ℕ → ℕ) (source : DagPath) (
   pub record IsEnded (done : Result (Unit {0}) Refusal) : Type 0 where
     pub kinds : IsOf (may_close get_kinds) done
     pub ready : IsReady a.told (Get source path) done
-    pub rule : IfErr done (λ why. status_of why ≡ status.Rule → RuleOf (Ok (Get source path)) why a.told l l)
+    pub rule : IfErr done (λ why. status_of why ≡ status.Rule → RuleOf (Get source path) why a.told l l)
     pub prints : PrintsAt (λ text. text ≡ []) false (ended done) h h
     pub blames : IsBlaming (refusal_fault done) → ⊥
     pub head : IfErr done (λ why. head_in b.told ≡ head_in a.told)

@@ -127,13 +127,13 @@ kind-of : (names : List (List ℕ)) (r : Result ℕ LightFault) (done : Result (
 kind-of names = by-end names (λ r done. SentKind done) (λ n. Whole refl) (λ f rule none quiet is. ByRule rule refl) (λ f none quiet. ByStore fault.Memory refl) (BySink refl) (λ f. ByStore f refl)
 
 rule-kept : (absent : Bool) (path : Path) (told : Told) (l m : streams.Told) (done : Result (Unit {0}) Refusal) → SentKind done
-    → IfErr done (λ why. status_of why ≡ status.Rule → RuleOf (Ok (Prove absent path)) why told l m)
-rule-kept absent path told l m done (Whole e) = subst (λ d. IfErr d (λ why. status_of why ≡ status.Rule → RuleOf (Ok (Prove absent path)) why told l m)) (sym e) tt
-rule-kept absent path told l m done (ByRule rule e) = subst (λ d. IfErr d (λ why. status_of why ≡ status.Rule → RuleOf (Ok (Prove absent path)) why told l m)) (sym e) (λ is. (rule, refl))
-rule-kept absent path told l m done (BySink e) = subst (λ d. IfErr d (λ why. status_of why ≡ status.Rule → RuleOf (Ok (Prove absent path)) why told l m)) (sym e) (λ is. absurd cc)
-rule-kept absent path told l m done (ByStore f e) = subst (λ d. IfErr d (λ why. status_of why ≡ status.Rule → RuleOf (Ok (Prove absent path)) why told l m)) (sym e) (by f)
+    → IfErr done (λ why. status_of why ≡ status.Rule → RuleOf (Prove absent path) why told l m)
+rule-kept absent path told l m done (Whole e) = subst (λ d. IfErr d (λ why. status_of why ≡ status.Rule → RuleOf (Prove absent path) why told l m)) (sym e) tt
+rule-kept absent path told l m done (ByRule rule e) = subst (λ d. IfErr d (λ why. status_of why ≡ status.Rule → RuleOf (Prove absent path) why told l m)) (sym e) (λ is. (rule, refl))
+rule-kept absent path told l m done (BySink e) = subst (λ d. IfErr d (λ why. status_of why ≡ status.Rule → RuleOf (Prove absent path) why told l m)) (sym e) (λ is. absurd cc)
+rule-kept absent path told l m done (ByStore f e) = subst (λ d. IfErr d (λ why. status_of why ≡ status.Rule → RuleOf (Prove absent path) why told l m)) (sym e) (by f)
   where
-    by : (f : StoreFault) → status_of (refusal.Store f) ≡ status.Rule → RuleOf (Ok (Prove absent path)) (refusal.Store f) told l m
+    by : (f : StoreFault) → status_of (refusal.Store f) ≡ status.Rule → RuleOf (Prove absent path) (refusal.Store f) told l m
     by fault.Failed is = absurd cc
     by (fault.Damaged cid) is = absurd cc
     by (fault.Missing cid) is = absurd cc

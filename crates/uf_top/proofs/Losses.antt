@@ -11,20 +11,20 @@ use Rattle.uf_tree.specs.declared.profile.Profile.{Profile}
 use Rattle.uf_command.specs.Commands.{HasInput}
 use Rattle.uf_command.specs.Natures.{prints_after}
 use Rattle.uf_command.specs.Lines.{line_of, said}
-use Rattle.uf_top.specs.Reply.{Outside, Reply, in_world, reply_to}
+use Rattle.uf_top.specs.Reply.{Outside, Reply, in_world, reply}
 use Rattle.uf_command.specs.Statuses.{ended, no_memory, status_of}
 use Rattle.uf_command.specs.declared.status.Status.{Status}
 use Rattle.uf_command.specs.declared.types.Command.{Command}
 use Rattle.uf_command.specs.declared.types.Refusal.{Refusal}
 use Rattle.uf_command.specs.declared.types.Refusal.TheVariants as refusal
 use Rattle.uf_top.specs.Around.{AllWritten, Around, HasOutside, MetNone}
-use Rattle.uf_top.specs.Bounds.{words_touch}
+use Rattle.uf_top.specs.Bounds.{command_touches}
 use Rattle.uf_top.specs.Causes.{KeepsHead}
 use Rattle.uf_command.specs.Telling.{TellsEnd, has_details}
-use Rattle.uf_top.specs.Losing.{DoesOver, EndsOver, words_need}
+use Rattle.uf_top.specs.Losing.{DoesOver, EndsOver, command_needs}
 use Rattle.uf_top.specs.Naming.{NamesAfter, StaysNamed, TellsBlocks}
-use Rattle.uf_top.specs.Working.{Serves}
-use Rattle.uf_top.proofs.Losing.{names-kept, names-same}
+use Rattle.uf_top.specs.Working.{Does}
+use Rattle.uf_top.proofs.Losing.{names-kept}
 use Rattle.uf_top.proofs.Telling.{detailed-kept, err-ends, ok-ends, printed-all}
 
 module _ (Says : List ℕ → Type 0) (given : Status) (X : List ℕ → List ℕ) (N : List ℕ → ℕ) (a b : Around) (p : Profile) (es : Entries) where
@@ -46,39 +46,29 @@ module _ (Says : List ℕ → Type 0) (given : Status) (X : List ℕ → List �
       let e = err-ends reply.ends why a.held b.held x.ends in
       inr (record { status_is = told.0 ∙ ap ended e; says = subst (λ e. Says (said e)) e told.1; printed = printed-all reply.ends (Err why) a.held b.held x.ends; stands = x.stands })
 
-  ends-over : (asked : Result Command Refusal) (needs : List Held) (reply : Reply) (done : Result (Unit {0}) Refusal) → MetNone asked given → TellsEnd Says done given
-      → (MetNone asked (ended done) → DoesOver X N a.store.told b.store.told p es needs reply done a.held b.held)
+  ends-over : (command : Command) (needs : List Held) (reply : Reply) (done : Result (Unit {0}) Refusal) → MetNone (Ok command) given → TellsEnd Says done given
+      → (MetNone (Ok command) (ended done) → DoesOver X N a.store.told b.store.told p es needs reply done a.held b.held)
       → ((why : Refusal) → done ≡ Err why → has_details (status_of why) ≡ true → StillNamed) → EndsOver X N a.store.told b.store.told p es needs Says reply given a.held b.held
-  ends-over asked needs reply (Ok done) none t over stays = ok-over needs reply done t (over (λ generated e. cc))
-  ends-over asked needs reply (Err why) none (inr told) over stays = inl (record { fault = Memory; loss = tt; status_is = told.1; says = told.2; stands = stays why refl told.0 })
-  ends-over asked needs reply (Err why) none (inl told) over stays = err-over needs reply why told (over (λ generated e. none generated (told.0 ∙ e)))
+  ends-over command needs reply (Ok done) none t over stays = ok-over needs reply done t (over (λ generated e. cc))
+  ends-over command needs reply (Err why) none (inr told) over stays = inl (record { fault = Memory; loss = tt; status_is = told.1; says = told.2; stands = stays why refl told.0 })
+  ends-over command needs reply (Err why) none (inl told) over stays = err-over needs reply why told (over (λ generated e. none generated (told.0 ∙ e)))
 
-  over-of : (asked : Result Command Refusal) (done : Result (Unit {0}) Refusal) → Serves X N asked done a b → (rows : ℕ → ℕ) (held : Lookup) (outside : Outside) → StaysNamed X N a.store.told b.store.told p es → TellsBlocks a.store.told held → AreHeights p rows
-      → HasOutside asked outside a b → Calm a.store b.store → AllWritten asked a.writes b.writes a.host.writes b.host.writes → MetNone asked (ended done) → DoesOver X N a.store.told b.store.told p es (words_need X N rows asked p es) (reply_to X N asked (in_world p es held outside)) done a.held b.held
-  over-of (Ok command) done h rows held outside named tells heights input calm write own = h.lost p es rows held outside named tells heights input (record { store = calm; written = write; own = own })
-  over-of (Err asked) done h rows held outside named tells heights input calm write own = by h.refused
-    where
-      now : StillNamed
-      now = names-same X N a.store.told b.store.told p es (ap (λ (x : Around). x.store.told) h.same) named
+  over-of : (command : Command) (done : Result (Unit {0}) Refusal) → Does X N command done a b → (rows : ℕ → ℕ) (held : Lookup) (outside : Outside) → StaysNamed X N a.store.told b.store.told p es → TellsBlocks a.store.told held → AreHeights p rows
+      → HasOutside (Ok command) outside a b → Calm a.store b.store → AllWritten (Ok command) a.writes b.writes a.host.writes b.host.writes → MetNone (Ok command) (ended done) → DoesOver X N a.store.told b.store.told p es (command_needs X N rows command p es) (reply X N command (in_world p es held outside)) done a.held b.held
+  over-of command done h rows held outside named tells heights input calm write own = h.lost p es rows held outside named tells heights input (record { store = calm; written = write; own = own })
 
-      by : (done ≡ Err asked) ⊎ (done ≡ Err no_memory) → DoesOver X N a.store.told b.store.told p es (words_need X N rows (Err asked) p es) (reply_to X N (Err asked) (in_world p es held outside)) done a.held b.held
-      by (inl is) = inr (record { ends = (is, ap (λ (x : Around). x.held) h.same); stands = now })
-      by (inr is) = inl (record { fault = Memory; ends_are = is; loss = tt; stands = now })
-
-  still-of : (asked : Result Command Refusal) (done : Result (Unit {0}) Refusal) → Serves X N asked done a b → StaysNamed X N a.store.told b.store.told p es → (why : Refusal) → done ≡ Err why → has_details (status_of why) ≡ true → StillNamed
-  still-of (Err asked) done h named why is detailed = names-same X N a.store.told b.store.told p es (ap (λ (x : Around). x.store.told) h.same) named
-  still-of (Ok command) done h named why is detailed =
+  still-of : (command : Command) (done : Result (Unit {0}) Refusal) → Does X N command done a b → StaysNamed X N a.store.told b.store.told p es → (why : Refusal) → done ≡ Err why → has_details (status_of why) ≡ true → StillNamed
+  still-of command done h named why is detailed =
       names-kept X N a.store.told b.store.told p es h.leaves.good (detailed-kept why (prints_after command) a.store.told b.store.told detailed (subst (λ d. KeepsHead d (prints_after command) a.store.told b.store.told) is h.leaves.head)) named
 
-  pub lost-told : (asked : Result Command Refusal) (done : Result (Unit {0}) Refusal) → Serves X N asked done a b → TellsEnd Says done given
-      → (rows : ℕ → ℕ) (held : Lookup) (outside : Outside) → StaysNamed X N a.store.told b.store.told p es → TellsBlocks a.store.told held → AreHeights p rows → HasOutside asked outside a b → Calm a.store b.store → AllWritten asked a.writes b.writes a.host.writes b.host.writes → MetNone asked given
-      → EndsOver X N a.store.told b.store.told p es (words_need X N rows asked p es) Says (reply_to X N asked (in_world p es held outside)) given a.held b.held
-  lost-told asked done h t rows held outside named tells heights input calm write none =
-      ends-over asked (words_need X N rows asked p es) (reply_to X N asked (in_world p es held outside)) done none t (over-of asked done h rows held outside named tells heights input calm write) (still-of asked done h named)
+  pub lost-told : (command : Command) (done : Result (Unit {0}) Refusal) → Does X N command done a b → TellsEnd Says done given
+      → (rows : ℕ → ℕ) (held : Lookup) (outside : Outside) → StaysNamed X N a.store.told b.store.told p es → TellsBlocks a.store.told held → AreHeights p rows → HasOutside (Ok command) outside a b → Calm a.store b.store → AllWritten (Ok command) a.writes b.writes a.host.writes b.host.writes → MetNone (Ok command) given
+      → EndsOver X N a.store.told b.store.told p es (command_needs X N rows command p es) Says (reply X N command (in_world p es held outside)) given a.held b.held
+  lost-told command done h t rows held outside named tells heights input calm write none =
+      ends-over command (command_needs X N rows command p es) (reply X N command (in_world p es held outside)) done none t (over-of command done h rows held outside named tells heights input calm write) (still-of command done h named)
 
   -- ---- how many touches were needed
 
-  pub touches-told : (bytes : List ℕ) (rows : ℕ → ℕ) (asked : Result Command Refusal) (done : Result (Unit {0}) Refusal) → Serves X N asked done a b → StaysNamed X N a.store.told b.store.told p es → HasInput asked a.left bytes a.reads b.reads → AreHeights p rows → Calm a.store b.store
-      → IfSome (words_touch X N rows bytes asked p es) (λ most. b.touches ≤ a.touches + most)
-  touches-told bytes rows (Ok command) done h named input heights calm = h.touches p es bytes rows named input heights calm
-  touches-told bytes rows (Err asked) done h named input heights calm = (let e = ap (λ (x : Around). x.touches) h.same in omega (arith, e))
+  pub touches-told : (bytes : List ℕ) (rows : ℕ → ℕ) (command : Command) (done : Result (Unit {0}) Refusal) → Does X N command done a b → StaysNamed X N a.store.told b.store.told p es → HasInput (Ok command) a.left bytes a.reads b.reads → AreHeights p rows → Calm a.store b.store
+      → IfSome (command_touches X N rows bytes command p es) (λ most. b.touches ≤ a.touches + most)
+  touches-told bytes rows command done h named input heights calm = h.touches p es bytes rows named input heights calm

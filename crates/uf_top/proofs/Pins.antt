@@ -450,7 +450,7 @@ module _ (X : List ℕ → List ℕ) (N : List ℕ → ℕ) (ask : PinAsk) (a b 
       → Touches X N ask t0 t1 → Does X N (Pin ask) (Err (pin_refusal f)) (around a l i h w t0 side) (around b l i h w t1 side)
   pin-refused A f may says cause writes unread touch =
       let is = fault-of A f (ask-kinds X A ask f a b may cause) cause in
-      let quiet = quiet-of (IsTextOf X N a.told b.told side.told (Ok (Pin ask)) l) false (pin_refusal f) is.other in
+      let quiet = quiet-of (IsTextOf X N a.told b.told side.told (Pin ask) l) false (pin_refusal f) is.other in
       record {
         answers = λ world finds input calm. answered is world finds.stands calm.store (said-at ask (Err (pin_refusal f)) a.told says world.held finds.held world.pins (input.2 (pins-used ask)));
         lost = λ p es rows held outside named tells heights input calm. over is p es held outside named calm.store (said-at ask (Err (pin_refusal f)) a.told says held tells outside.pins (input.2 (pins-used ask)));

@@ -126,7 +126,7 @@ alone-stays (Gen n seed) h world = absurd cc
 alone-stays (Pin ask) h world = absurd cc
 
 -- and gets nothing
-alone-gets : (command : Command) → natures.reads_tree_alone command ≡ true → (given : Status) (told : Told) (host now : HostTold) → GetsFor (Ok command) given told host now
+alone-gets : (command : Command) → natures.reads_tree_alone command ≡ true → (given : Status) (told : Told) (host now : HostTold) → GetsFor command given told host now
 alone-gets (Init p) h given told host now = tt
 alone-gets (Add only_hash) h given told host now = tt
 alone-gets (AddTo dest) h given told host now = tt
@@ -271,7 +271,7 @@ some-stays (x ∷ text) true a b some stays = λ other. absurd (other refl)
 some-stays (x ∷ text) false a b some stays = stays
 
 module _ (X : List ℕ → List ℕ) (N : List ℕ → ℕ) where
-  text-of : (command : Command) → natures.reads_tree_alone command ≡ true → (told now : Told) (host : HostTold) (l m : streams.Told) (text : List ℕ) → AddsFor X told now (Ok command) (Ok text) l m → IsHostedText X N told now host command text → IsTextOf X N told now host (Ok command) l text
+  text-of : (command : Command) → natures.reads_tree_alone command ≡ true → (told now : Told) (host : HostTold) (l m : streams.Told) (text : List ℕ) → AddsFor X told now (Ok command) (Ok text) l m → IsHostedText X N told now host command text → IsTextOf X N told now host command l text
   text-of (Init p) alone told now host l m text h rows = tt
   text-of (Add only_hash) alone told now host l m text h rows = h
   text-of (WriteInput how path) alone told now host l m text h rows = tt
@@ -291,7 +291,7 @@ module _ (X : List ℕ → List ℕ) (N : List ℕ → ℕ) where
   text-of (Pin ask) alone told now host l m text h rows = absurd cc
 
   rule-in : (command : Command) (told now : Told) (l m : streams.Told) (rule : Rule) → may_meet (kinds_of command) (refusal_kind (refusal.Rule rule)) ≡ true → AddsFor X told now (Ok command) (Err (refusal.Rule rule)) l m
-      → RuleOf (Ok command) (refusal.Rule rule) told l m
+      → RuleOf command (refusal.Rule rule) told l m
   rule-in (Init p) told now l m rule h adds = absurd cc
   rule-in (Add only_hash) told now l m rule h adds = (ap refusal.Rule adds.0, adds.1)
   rule-in (WriteInput how path) told now l m rule h adds = inr (rule, refl)
@@ -313,7 +313,7 @@ module _ (X : List ℕ → List ℕ) (N : List ℕ → ℕ) where
   rule-in (AddFrom recursive only_hash path) told now l m rule h adds = inr (rule, refl)
 
   long-in : (command : Command) (told now : Told) (l m : streams.Told) → may_meet (kinds_of command) OfLongInput ≡ true → AddsFor X told now (Ok command) (Err refusal.InputTooLong) l m
-      → RuleOf (Ok command) refusal.InputTooLong told l m
+      → RuleOf command refusal.InputTooLong told l m
   long-in (Init p) told now l m h adds = absurd cc
   long-in (Add only_hash) told now l m h adds = absurd cc
   long-in (WriteInput how path) told now l m h adds = inl (refl, adds)
@@ -393,7 +393,7 @@ module _ (X : List ℕ → List ℕ) (N : List ℕ → ℕ) where
   no-car (Gen n seed) needs h = cc
   no-car (Pin ask) needs h = cc
 
-  host-in : (command : Command) (told : Told) (l m : streams.Told) (rule : HostRule) → may_meet (kinds_of command) OfHost ≡ true → RuleOf (Ok command) (refusal.Host rule) told l m
+  host-in : (command : Command) (told : Told) (l m : streams.Told) (rule : HostRule) → may_meet (kinds_of command) OfHost ≡ true → RuleOf command (refusal.Host rule) told l m
   host-in (Init p) told l m rule h = absurd cc
   host-in (Add only_hash) told l m rule h = absurd cc
   host-in (AddTo dest) told l m rule h = absurd cc
@@ -415,7 +415,7 @@ module _ (X : List ℕ → List ℕ) (N : List ℕ → ℕ) where
   host-in (Pin pins.List) told l m rule h = absurd cc
 
   rules : (command : Command) → natures.reads_tree_alone command ≡ true → (told now : Told) (l m : streams.Told) (why : Refusal) → may_meet (kinds_of command) (refusal_kind why) ≡ true → AddsFor X told now (Ok command) (Err why) l m
-      → status_of why ≡ status.Rule → RuleOf (Ok command) why told l m
+      → status_of why ≡ status.Rule → RuleOf command why told l m
   rules command needs told now l m (refusal.Rule rule) h adds is = rule-in command told now l m rule h adds
   rules command needs told now l m (refusal.Dag rule) h adds is = absurd (no-dag command needs h)
   rules command needs told now l m (refusal.Car number place) h adds is = absurd (no-car command needs h)
@@ -461,7 +461,7 @@ module _ (X : List ℕ → List ℕ) (N : List ℕ → ℕ) where
     -- a command that is refused before anything is printed
     pub refused-does : (why : Refusal) → Makes X N command (Err why) (around a l i h w t0 side) (around b m j h w t1 side2) → Does X N command (Err why) (around a l i h w t0 side) (around b m j h w t1 side2)
     refused-does why mk =
-        let quiet = quiet-of (IsTextOf X N a.told b.told side.told (Ok command) l) (natures.streams command) why (λ e. no-write command (subst (λ k. may_meet (kinds_of command) k ≡ true) e mk.kinds)) in
+        let quiet = quiet-of (IsTextOf X N a.told b.told side.told command l) (natures.streams command) why (λ e. no-write command (subst (λ k. may_meet (kinds_of command) k ≡ true) e mk.kinds)) in
         record {
           answers = λ world finds input calm. answered world (λ uses. (input.1 uses).0) (mk.answers world (stands-in a.told world.standing finds.stands) input calm.store);
           lost = λ p es rows held bytes named tells heights input calm. over p es (mk.lost p es rows held bytes named input calm.store);

@@ -1,59 +1,68 @@
 -- From how a command was done to what it did.
-use Rattle.std.proofs.Common.{subst, Result}
+use Rattle.std.proofs.Common.{Result, Ok, Err}
 use Rattle.std.specs.Prelude.{ℕ, List, IfErr}
 use Rattle.uf_command.specs.Commands.{IsOfWords, of_command}
-use Rattle.uf_command.specs.Natures.{IsOfCommand, NoStore, own_store}
+use Rattle.uf_command.specs.Kinds.{IsOf}
+use Rattle.uf_command.specs.Natures.{IsOfCommand, NoStore, may_end, own_store}
 use Rattle.uf_command.specs.declared.status.Status.{Status}
 use Rattle.uf_command.specs.declared.types.Command.{Command}
 use Rattle.uf_command.specs.declared.types.Refusal.{Refusal}
 use Rattle.uf_top.specs.Around.{Around}
 use Rattle.uf_top.specs.Cars.{ByOwnStore}
 use Rattle.uf_command.specs.Telling.{TellsEnd}
-use Rattle.uf_top.specs.Running.{Runs}
-use Rattle.uf_top.specs.Working.{Serves}
+use Rattle.uf_top.specs.Running.{Runs, RunsCommand}
+use Rattle.uf_top.specs.Working.{Does, Serves}
 use Rattle.uf_top.proofs.Counted.{counted-of}
 use Rattle.uf_top.proofs.Losses.{lost-told, touches-told}
 use Rattle.uf_top.proofs.Telling.{blamed-told, clashes-told, faults-told, gets-told, good-told, head-told, host-told, idle-told, is-refused, kinds-told, pins-told, prefix-told, prints-told, read-told, replies-told, says-plain, shows, synced-told, told-same, unprinted-told, whole-told, write-told, writes-told}
 
 module _ (Says : List ℕ → Type 0) (given : Status) (X : List ℕ → List ℕ) (N : List ℕ → ℕ) (a b : Around) where
-  pub runs-told : (asked : Result Command Refusal) (done : Result (Unit {0}) Refusal) → IsOfWords asked → Serves X N asked done a b
-      → IfErr done (ByOwnStore X (of_command own_store NoStore asked) a.left a.store b.store) → IsOfCommand asked done → TellsEnd Says done given → Runs Says X N asked given a b
-  runs-told asked done of-words s sections kinds t = record {
-    replies = λ w finds outside quiet. replies-told Says given X N a b asked done s t w finds outside quiet.store quiet.written quiet.own;
-    whole = λ standing needs stands calm. whole-told Says given X N a b asked done of-words s t standing needs stands calm;
-    unprinted = λ w after is finds outside calm. unprinted-told Says given X N a b asked done s t w after is finds outside calm;
+  command-told : (command : Command) (done : Result (Unit {0}) Refusal) → Does X N command done a b → IfErr done (ByOwnStore X (own_store command) a.left a.store b.store) → IsOf (may_end command) done → TellsEnd Says done given
+      → RunsCommand Says X N command given a b
+  command-told command done s sections kinds t = record {
+    replies = λ w finds outside quiet. replies-told Says given X N a b command done s t w finds outside quiet.store quiet.written quiet.own;
+    whole = λ standing needs stands calm. whole-told Says given X N a b command done s t standing needs stands calm;
+    unprinted = λ w after is finds outside calm. unprinted-told Says given X N a b command done s t w after is finds outside calm;
     lost = λ p es rows held outside named tells heights has quiet.
-        lost-told Says given X N a b p es asked done s t rows held outside named tells heights has quiet.store quiet.written quiet.own;
+        lost-told Says given X N a b p es command done s t rows held outside named tells heights has quiet.store quiet.written quiet.own;
     answered = record {
-      kinds = kinds-told Says given asked done kinds t;
-      words = λ why is. (let idle = subst (λ asked. Serves X N asked done a b) is s in is-refused Says given done why t idle.refused);
+      kinds = kinds-told Says given command done kinds t;
       lines = says-plain Says given done t;
-      cause = shows Says given X N a b asked done of-words s sections kinds t;
+      cause = shows Says given X N a b command done s sections kinds t;
     };
     faults = record {
-      store = λ more. faults-told Says given X N a b asked done s t more;
-      clashes = λ more. clashes-told Says given X N a b asked done s t more;
-      reads = λ more. read-told Says given X N a b asked done s t more;
-      writes = λ more. write-told Says given X N a b asked done s t more;
-      counted = counted-of X N a b asked done s;
+      store = λ more. faults-told Says given X N a b command done s t more;
+      clashes = λ more. clashes-told Says given X N a b command done s t more;
+      reads = λ more. read-told Says given X N a b command done s t more;
+      writes = λ more. write-told Says given X N a b command done s t more;
+      counted = counted-of X N a b command done s;
     };
     printed = record {
-      prefix = λ w finds outside room. prefix-told Says given X N a b asked done s w finds outside room;
-      text = prints-told Says given X N a b asked done of-words s t;
-      synced = λ is. synced-told Says given X N a b asked done s t is;
+      prefix = λ w finds outside room. prefix-told Says given X N a b command done s w finds outside room;
+      text = prints-told Says given X N a b command done s t;
+      synced = λ is. synced-told Says given X N a b command done s t is;
     };
     left = record {
-      writes = writes-told Says given X N a b asked done s t;
-      good = good-told Says given X N a b asked done s;
-      head = λ unmoved. head-told Says given X N a b asked done s t unmoved;
-      told = λ is. told-same Says given X N a b asked done s is;
-      idle = λ p es bytes names input faults is. idle-told Says given X N a b asked done s p es bytes names input faults is;
-      host = λ is. host-told Says given X N a b asked done s is;
-      gets = gets-told Says given X N a b asked done s t;
-      pins = pins-told Says given X N a b asked done s t;
+      writes = writes-told Says given X N a b command done s t;
+      good = good-told Says given X N a b command done s;
+      head = λ unmoved. head-told Says given X N a b command done s t unmoved;
+      told = λ is. told-same Says given X N a b command done s is;
+      idle = λ p es bytes names input faults is. idle-told Says given X N a b command done s p es bytes names input faults is;
+      host = λ is. host-told Says given X N a b command done s is;
+      gets = gets-told Says given X N a b command done s t;
+      pins = pins-told Says given X N a b command done s t;
     };
     touched = record {
-      most = λ p es bytes rows named input heights calm. touches-told Says given X N a b p es bytes rows asked done s named input heights calm;
-      bad = λ is. blamed-told Says given X N a b asked done of-words s t is;
+      most = λ p es bytes rows named input heights calm. touches-told Says given X N a b p es bytes rows command done s named input heights calm;
+      bad = λ is. blamed-told Says given X N a b command done s t is;
     };
+  }
+
+  pub runs-told : (asked : Result Command Refusal) (done : Result (Unit {0}) Refusal) → IsOfWords asked → Serves X N asked done a b
+      → IfErr done (ByOwnStore X (of_command own_store NoStore asked) a.left a.store b.store) → IsOfCommand asked done → TellsEnd Says done given → Runs Says X N asked given a b
+  runs-told (Ok command) done of-words s sections kinds t = command-told command done s sections kinds t
+  runs-told (Err why) done of-words s sections kinds t = record {
+    words = of-words;
+    refused = is-refused Says given done why t s.refused;
+    same = s.same;
   }

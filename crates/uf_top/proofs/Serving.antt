@@ -90,7 +90,7 @@ same-left : (source : DagPath) (path : List ℕ) (store : Told) (told : HostTold
 same-left source path None told = tt
 same-left source path (Some t) told = inl refl
 
-nothing-gotten : (command : Command) (store : Told) (told : HostTold) → GetsFor (Ok command) status.Memory store told told
+nothing-gotten : (command : Command) (store : Told) (told : HostTold) → GetsFor command status.Memory store told told
 nothing-gotten (Init p) store told = tt
 nothing-gotten (Add only_hash) store told = tt
 nothing-gotten (AddTo dest) store told = tt

@@ -21,7 +21,7 @@ use Rattle.uf_tree.specs.declared.profile.Profile.{Profile}
 use Rattle.uf_command.specs.Commands.{HasInput, IsOfWords, is_idle, of_command}
 use Rattle.uf_command.specs.Natures.{command_writes, needs_standing, only_reads, own_store, reads_tree_alone, uses_host, writes_host, OwnStore, NoStore, OfCarSections, OfTree, prints_after}
 use Rattle.uf_command.specs.Natures.{streams as flows}
-use Rattle.uf_command.specs.Kinds.{OfCar, OfClash, OfHost, OfLongInput, OfMissing, OfPath, OfPins, OfReady, OfRule, OfUsage, OfWrite, fault_behind, may_close, refusal_kind, word_kinds}
+use Rattle.uf_command.specs.Kinds.{IsOf, OfCar, OfClash, OfHost, OfLongInput, OfMissing, OfPath, OfPins, OfReady, OfRule, OfUsage, OfWrite, fault_behind, may_close, refusal_kind, word_kinds}
 use Rattle.uf_command.specs.Natures.{IsOfCommand, kinds_of, may_end, may_give}
 use Rattle.uf_command.specs.Lines.{line_of, said}
 use Rattle.uf_top.specs.Reply.{World, outside_of, reply, reply_to}
@@ -46,10 +46,8 @@ use Rattle.uf_top.specs.Getting.{GetsFor, LeavesAt}
 use Rattle.uf_top.specs.Naming.{FindsOver, FindsWorld, StandsIf}
 use Rattle.uf_top.specs.Pins.{PinsAfter, PinsFor, PinsLeft, pins_in}
 use Rattle.uf_top.specs.Shapes.{SyncsAfter, WritesAs, WritesFor, is_done}
-use Rattle.uf_top.specs.Working.{Does, Serves}
-use Rattle.uf_top.proofs.Finding.{words-whole}
+use Rattle.uf_top.specs.Working.{Does}
 use Rattle.uf_top.proofs.Pins.{pins-after}
-use Rattle.uf_top.proofs.Printing.{quiet-of}
 use Rattle.uf_top.proofs.Shows.{blaming-of}
 use Rattle.uf_top.proofs.Standings.{stands-kept, tells-none}
 
@@ -345,7 +343,7 @@ module _ (hash : List ℕ → List ℕ) (P : Role → List ℕ → Type 0) (a b 
   clash-of (refusal.Store fault.Memory) h more = inr refl
 
 -- a command that may say that the note of pins isn't read is one on pins
-pins-unread : (Says : List ℕ → Type 0) (command : Command) (a b : Told) → may_close (kinds_of command) OfPins ≡ true → PinsFor command (Err refusal.BadPins) a b → PinsUnread Says (Ok command) a
+pins-unread : (Says : List ℕ → Type 0) (command : Command) (a b : Told) → may_close (kinds_of command) OfPins ≡ true → PinsFor command (Err refusal.BadPins) a b → PinsUnread Says command a
 pins-unread Says (Init profile) a b h p = absurd cc
 pins-unread Says (Add only_hash) a b h p = absurd cc
 pins-unread Says (AddTo dest) a b h p = absurd cc
@@ -426,10 +424,6 @@ synced-last (Some t) now e = subst IsSynced (sym e) (t.writes, refl)
 
 synced-of : (X : List ℕ → List ℕ) (before now : Told) → SyncsAfter X before now → IsSynced now
 synced-of X before now h = synced-last h.between now h.last
-
--- words are refused for no failed write
-unwritten : (why : Refusal) → IsOfWords (Err why) → refusal_kind why ≡ OfWrite → ⊥
-unwritten why words e = (let w : word_kinds OfWrite ≡ true = ap word_kinds (sym e) ∙ words in cc)
 
 -- a status with details is no end of a command that was done, and prints as want of memory does
 detailed-undone : (s : Status) → has_details s ≡ true → is_done s ≡ false
@@ -520,10 +514,9 @@ module _ (Says : List ℕ → Type 0) where
     ended-told A (Err why) t h memory = by-why A why given t (λ says. h) memory
 
     -- each answer of a command is of a kind that it may answer
-    pub kinds-told : (asked : Result Command Refusal) (done : Result (Unit {0}) Refusal) → IsOfCommand asked done → TellsEnd Says done given → of_command (λ command. may_give command given) true asked ≡ true
-    kinds-told (Err asked) done of t = refl
-    kinds-told (Ok command) (Ok done) of t = subst (λ g. may_give command g ≡ true) (sym t.0) refl
-    kinds-told (Ok command) (Err why) of t = by-why (λ g. may_give command g ≡ true) why given t (λ says. gives command why of) refl
+    pub kinds-told : (command : Command) (done : Result (Unit {0}) Refusal) → IsOf (may_end command) done → TellsEnd Says done given → may_give command given ≡ true
+    kinds-told command (Ok done) of t = subst (λ g. may_give command g ≡ true) (sym t.0) refl
+    kinds-told command (Err why) of t = by-why (λ g. may_give command g ≡ true) why given t (λ says. gives command why of) refl
 
     module _ (X : List ℕ → List ℕ) (N : List ℕ → ℕ) (a b : Around) where
       -- a cause in the store, or in one of the command's own
@@ -547,7 +540,7 @@ module _ (Says : List ℕ → Type 0) where
       clashing OfCarSections cid first second h = inr h
       clashing OfTree cid first second h = h
 
-      does-show : (command : Command) (why : Refusal) → Does X N command (Err why) a b → may_end command (refusal_kind why) ≡ true → ByOwnStore X (own_store command) a.left a.store b.store why → Says (line_of why) → StatusShows Says X N a b (Ok command) (status_of why)
+      does-show : (command : Command) (why : Refusal) → Does X N command (Err why) a b → may_end command (refusal_kind why) ≡ true → ByOwnStore X (own_store command) a.left a.store b.store why → Says (line_of why) → StatusShows Says X N a b command (status_of why)
       does-show command (refusal.Rule rule) h of sections says = (refusal.Rule rule, refl, says, h.rule refl)
       does-show command (refusal.Dag rule) h of sections says = (refusal.Dag rule, refl, says, h.rule refl)
       does-show command (refusal.Car number place) h of sections says = (refusal.Car number place, refl, says, h.rule refl)
@@ -568,40 +561,9 @@ module _ (Says : List ℕ → Type 0) where
       does-show command (refusal.Store (fault.Clash cid first second)) h of sections says = (cid, first, second, meeting (own_store command) cid first second (tree-clashes command of) h.cause, says)
       does-show command (refusal.Store fault.Memory) h of sections says = tt
 
-      word-shows : (why : Refusal) → word_kinds (refusal_kind why) ≡ true → Says (line_of why) → StatusShows Says X N a b (Err why) (status_of why)
-      word-shows (refusal.Rule rule) h says = absurd cc
-      word-shows (refusal.Dag rule) h says = absurd cc
-      word-shows (refusal.Car number place) h says = absurd cc
-      word-shows (refusal.CarLacks cid) h says = absurd cc
-      word-shows (refusal.OwnClash cid first second) h says = absurd cc
-      word-shows (refusal.Host rule) h says = absurd cc
-      word-shows (refusal.BadPath path) h says = (refusal.BadPath path, refl, says, refl)
-      word-shows refusal.Usage h says = refl
-      word-shows refusal.InputTooLong h says = absurd cc
-      word-shows refusal.BadPins h says = absurd cc
-      word-shows (refusal.Ready reason) h says = absurd cc
-      word-shows refusal.Read h says = absurd cc
-      word-shows refusal.Write h says = absurd cc
-      word-shows (refusal.Store fault.Failed) h says = absurd cc
-      word-shows (refusal.Store (fault.Damaged cid)) h says = absurd cc
-      word-shows (refusal.Store (fault.Missing cid)) h says = absurd cc
-      word-shows (refusal.Store (fault.BadBlock cid role)) h says = absurd cc
-      word-shows (refusal.Store (fault.Clash cid first second)) h says = absurd cc
-      word-shows (refusal.Store fault.Memory) h says = tt
-
-      idle-shows : (asked why : Refusal) (done : Result (Unit {0}) Refusal) → done ≡ Err why → word_kinds (refusal_kind asked) ≡ true → (done ≡ Err asked) ⊎ (done ≡ Err no_memory) → Says (line_of why)
-          → StatusShows Says X N a b (Err asked) (status_of why)
-      idle-shows asked why done is h (inl same) says =
-          let e : why ≡ asked = cc in
-          subst (λ w. StatusShows Says X N a b (Err asked) (status_of w)) (sym e) (word-shows asked h (subst (λ w. Says (line_of w)) e says))
-      idle-shows asked why done is h (inr same) says =
-          let e : why ≡ no_memory = cc in
-          subst (λ w. StatusShows Says X N a b (Err asked) (status_of w)) (sym e) tt
-
-      pub shows : (asked : Result Command Refusal) (done : Result (Unit {0}) Refusal) → IsOfWords asked → Serves X N asked done a b → IfErr done (ByOwnStore X (of_command own_store NoStore asked) a.left a.store b.store) → IsOfCommand asked done → TellsEnd Says done given → StatusShows Says X N a b asked given
-      shows asked (Ok done) words s sections of t = subst (StatusShows Says X N a b asked) (sym t.0) tt
-      shows (Ok command) (Err why) words s sections of t = by-why (StatusShows Says X N a b (Ok command)) why given t (does-show command why s of sections) tt
-      shows (Err asked) (Err why) words s sections of t = by-why (StatusShows Says X N a b (Err asked)) why given t (idle-shows asked why (Err why) refl words s.refused) tt
+      pub shows : (command : Command) (done : Result (Unit {0}) Refusal) → Does X N command done a b → IfErr done (ByOwnStore X (own_store command) a.left a.store b.store) → IsOf (may_end command) done → TellsEnd Says done given → StatusShows Says X N a b command given
+      shows command (Ok done) s sections of t = subst (StatusShows Says X N a b command) (sym t.0) tt
+      shows command (Err why) s sections of t = by-why (StatusShows Says X N a b command) why given t (does-show command why s of sections) tt
 
       -- ---- no fault is passed over
 
@@ -614,17 +576,15 @@ module _ (Says : List ℕ → Type 0) where
       storing why (inl t) is = t.0 ∙ is
       storing why (inr t) is = (let e : false ≡ true = ap has_details (sym is) ∙ t.0 in absurd cc)
 
-      pub faults-told : (asked : Result Command Refusal) (done : Result (Unit {0}) Refusal) → Serves X N asked done a b → TellsEnd Says done given → a.store.faults < b.store.faults
+      pub faults-told : (command : Command) (done : Result (Unit {0}) Refusal) → Does X N command done a b → TellsEnd Says done given → a.store.faults < b.store.faults
           → given ≡ status.StoreFault
-      faults-told (Err asked) done s t more = (let e = ap (λ (x : Around). x.store.faults) s.same in absurd (omega (arith, e, more)))
-      faults-told (Ok command) (Ok done) s t more = (let e = s.cause.faults in absurd (omega (arith, e, more)))
-      faults-told (Ok command) (Err why) s t more = storing why t (failure-of X (IsBadIn X N a.store.told b.store.told) a.store b.store why s.cause more)
+      faults-told command (Ok done) s t more = (let e = s.cause.faults in absurd (omega (arith, e, more)))
+      faults-told command (Err why) s t more = storing why t (failure-of X (IsBadIn X N a.store.told b.store.told) a.store b.store why s.cause more)
 
-      pub clashes-told : (asked : Result Command Refusal) (done : Result (Unit {0}) Refusal) → Serves X N asked done a b → TellsEnd Says done given → a.store.clashes < b.store.clashes
+      pub clashes-told : (command : Command) (done : Result (Unit {0}) Refusal) → Does X N command done a b → TellsEnd Says done given → a.store.clashes < b.store.clashes
           → (given ≡ status.Clash) ⊎ (given ≡ status.Memory)
-      clashes-told (Err asked) done s t more = (let e = ap (λ (x : Around). x.store.clashes) s.same in absurd (omega (arith, e, more)))
-      clashes-told (Ok command) (Ok done) s t more = (let e = s.cause.clashes in absurd (omega (arith, e, more)))
-      clashes-told (Ok command) (Err why) s t more = by-fault why status.Clash t (clash-of X (IsBadIn X N a.store.told b.store.told) a.store b.store why s.cause more)
+      clashes-told command (Ok done) s t more = (let e = s.cause.clashes in absurd (omega (arith, e, more)))
+      clashes-told command (Err why) s t more = by-fault why status.Clash t (clash-of X (IsBadIn X N a.store.told b.store.told) a.store b.store why s.cause more)
 
       reading : (why : Refusal) → TellsWhy Says why given → why ≡ refusal.Read → given ≡ status.ReadFault
       reading why (inl t) is = t.0 ∙ ap status_of is
@@ -634,26 +594,21 @@ module _ (Says : List ℕ → Type 0) where
       writing why (inl t) is = t.0 ∙ ap status_of is
       writing why (inr t) is = (let e : false ≡ true = ap (λ w. has_details (status_of w)) (sym is) ∙ t.0 in absurd cc)
 
-      pub read-told : (asked : Result Command Refusal) (done : Result (Unit {0}) Refusal) → Serves X N asked done a b → TellsEnd Says done given → (a.reads < b.reads) ⊎ (a.host.reads < b.host.reads) → given ≡ status.ReadFault
-      read-told (Err asked) done s t (inl more) = (let e = ap (λ (x : Around). x.reads) s.same in absurd (omega (arith, e, more)))
-      read-told (Err asked) done s t (inr more) = (let e = ap (λ (x : Around). x.host.reads) s.same in absurd (omega (arith, e, more)))
-      read-told (Ok command) (Ok done) s t (inl more) = (let e = input-read (uses_host command) false a.reads b.reads s.reads more in absurd cc)
-      read-told (Ok command) (Ok done) s t (inr more) = (let e = host-read (writes_host command) (uses_host command) false false a.host b.host s.host more in absurd cc)
-      read-told (Ok command) (Err why) s t (inl more) = reading why t (read-of why (input-read (uses_host command) (is_read {A = Unit {0}} (Err why)) a.reads b.reads s.reads more))
-      read-told (Ok command) (Err why) s t (inr more) = reading why t (read-of why (host-read (writes_host command) (uses_host command) (is_read {A = Unit {0}} (Err why)) (is_write {A = Unit {0}} (Err why)) a.host b.host s.host more))
+      pub read-told : (command : Command) (done : Result (Unit {0}) Refusal) → Does X N command done a b → TellsEnd Says done given → (a.reads < b.reads) ⊎ (a.host.reads < b.host.reads) → given ≡ status.ReadFault
+      read-told command (Ok done) s t (inl more) = (let e = input-read (uses_host command) false a.reads b.reads s.reads more in absurd cc)
+      read-told command (Ok done) s t (inr more) = (let e = host-read (writes_host command) (uses_host command) false false a.host b.host s.host more in absurd cc)
+      read-told command (Err why) s t (inl more) = reading why t (read-of why (input-read (uses_host command) (is_read {A = Unit {0}} (Err why)) a.reads b.reads s.reads more))
+      read-told command (Err why) s t (inr more) = reading why t (read-of why (host-read (writes_host command) (uses_host command) (is_read {A = Unit {0}} (Err why)) (is_write {A = Unit {0}} (Err why)) a.host b.host s.host more))
 
       -- only a command that writes to the host changes it
-      pub host-told : (asked : Result Command Refusal) (done : Result (Unit {0}) Refusal) → Serves X N asked done a b → of_command writes_host false asked ≡ false → b.host.told ≡ a.host.told
-      host-told (Err asked) done s none = ap (λ (x : Around). x.host.told) s.same
-      host-told (Ok command) done s none = host-same (writes_host command) (uses_host command) (is_read done) (is_write done) a.host b.host none s.host
+      pub host-told : (command : Command) (done : Result (Unit {0}) Refusal) → Does X N command done a b → writes_host command ≡ false → b.host.told ≡ a.host.told
+      host-told command done s none = host-same (writes_host command) (uses_host command) (is_read done) (is_write done) a.host b.host none s.host
 
-      pub write-told : (asked : Result Command Refusal) (done : Result (Unit {0}) Refusal) → Serves X N asked done a b → TellsEnd Says done given → (a.writes < b.writes) ⊎ (a.host.writes < b.host.writes) → given ≡ status.WriteFault
-      write-told (Err asked) done s t (inl more) = (let e = ap (λ (x : Around). x.writes) s.same in absurd (omega (arith, e, more)))
-      write-told (Err asked) done s t (inr more) = (let e = ap (λ (x : Around). x.host.writes) s.same in absurd (omega (arith, e, more)))
-      write-told (Ok command) (Ok done) s t (inl more) = (let e = output-written (writes_host command) false a.writes b.writes s.writes more in absurd cc)
-      write-told (Ok command) (Ok done) s t (inr more) = (let e = host-written (writes_host command) (uses_host command) false false a.host b.host s.host more in absurd cc)
-      write-told (Ok command) (Err why) s t (inl more) = writing why t (write-of why (output-written (writes_host command) (is_write {A = Unit {0}} (Err why)) a.writes b.writes s.writes more))
-      write-told (Ok command) (Err why) s t (inr more) = writing why t (write-of why (host-written (writes_host command) (uses_host command) (is_read {A = Unit {0}} (Err why)) (is_write {A = Unit {0}} (Err why)) a.host b.host s.host more))
+      pub write-told : (command : Command) (done : Result (Unit {0}) Refusal) → Does X N command done a b → TellsEnd Says done given → (a.writes < b.writes) ⊎ (a.host.writes < b.host.writes) → given ≡ status.WriteFault
+      write-told command (Ok done) s t (inl more) = (let e = output-written (writes_host command) false a.writes b.writes s.writes more in absurd cc)
+      write-told command (Ok done) s t (inr more) = (let e = host-written (writes_host command) (uses_host command) false false a.host b.host s.host more in absurd cc)
+      write-told command (Err why) s t (inl more) = writing why t (write-of why (output-written (writes_host command) (is_write {A = Unit {0}} (Err why)) a.writes b.writes s.writes more))
+      write-told command (Err why) s t (inr more) = writing why t (write-of why (host-written (writes_host command) (uses_host command) (is_read {A = Unit {0}} (Err why)) (is_write {A = Unit {0}} (Err why)) a.host b.host s.host more))
 
       -- what a detailed status leaves on the host, want of memory leaves too
       detailed-left : (store : Told) (source : DagPath) (path : List ℕ) (host now : HostTold) (s : Status) → has_details s ≡ true → IfSome store (λ t. LeavesAt (held_at t) source path host now s) → IfSome store (λ t. LeavesAt (held_at t) source path host now status.Memory)
@@ -670,7 +625,7 @@ module _ (Says : List ℕ → Type 0) where
       detailed-left (Some t) source path host now status.Memory h left = absurd cc
       detailed-left (Some t) source path host now status.NotReady h left = inl left
 
-      pub detailed-gets : (command : Command) (store : Told) (host now : HostTold) (s : Status) → has_details s ≡ true → GetsFor (Ok command) s store host now → GetsFor (Ok command) status.Memory store host now
+      pub detailed-gets : (command : Command) (store : Told) (host now : HostTold) (s : Status) → has_details s ≡ true → GetsFor command s store host now → GetsFor command status.Memory store host now
       detailed-gets (Init p) store host now s h gets = tt
       detailed-gets (Add only_hash) store host now s h gets = tt
       detailed-gets (AddTo dest) store host now s h gets = tt
@@ -689,44 +644,32 @@ module _ (Says : List ℕ → Type 0) where
       detailed-gets (Gen n seed) store host now s h gets = tt
       detailed-gets (Pin ask) store host now s h gets = tt
 
-      pub gets-told : (asked : Result Command Refusal) (done : Result (Unit {0}) Refusal) → Serves X N asked done a b → TellsEnd Says done given → GetsFor asked given a.store.told a.host.told b.host.told
-      gets-told (Err asked) done s t = tt
-      gets-told (Ok command) (Ok done) s t = subst (λ g. GetsFor (Ok command) g a.store.told a.host.told b.host.told) (sym t.0) s.gets
-      gets-told (Ok command) (Err why) s (inl t) = subst (λ g. GetsFor (Ok command) g a.store.told a.host.told b.host.told) (sym t.0) s.gets
-      gets-told (Ok command) (Err why) s (inr t) =
-          subst (λ g. GetsFor (Ok command) g a.store.told a.host.told b.host.told) (sym t.1) (detailed-gets command a.store.told a.host.told b.host.told (status_of why) t.0 s.gets)
+      pub gets-told : (command : Command) (done : Result (Unit {0}) Refusal) → Does X N command done a b → TellsEnd Says done given → GetsFor command given a.store.told a.host.told b.host.told
+      gets-told command (Ok done) s t = subst (λ g. GetsFor command g a.store.told a.host.told b.host.told) (sym t.0) s.gets
+      gets-told command (Err why) s (inl t) = subst (λ g. GetsFor command g a.store.told a.host.told b.host.told) (sym t.0) s.gets
+      gets-told command (Err why) s (inr t) =
+          subst (λ g. GetsFor command g a.store.told a.host.told b.host.told) (sym t.1) (detailed-gets command a.store.told a.host.told b.host.told (status_of why) t.0 s.gets)
 
       -- the note of pins: what a command on them leaves of it, and that any other leaves it
       by-pins : (command : Command) (done : Result (Unit {0}) Refusal) → PinsFor command done a.store.told b.store.told → WritesAs X (command_writes command) (is_done (ended done)) a.store.told b.store.told
           → PinsAfter (Ok command) (ended done) a.store.told b.store.told
       by-pins command done p w = pins-after X command done a.store.told b.store.told p w
 
-      pub pins-told : (asked : Result Command Refusal) (done : Result (Unit {0}) Refusal) → Serves X N asked done a b → TellsEnd Says done given → PinsAfter asked given a.store.told b.store.told
-      pins-told (Err asked) done s t = ap (λ (x : Around). pins_in x.store.told) s.same
-      pins-told (Ok command) (Ok done) s t = subst (λ g. PinsAfter (Ok command) g a.store.told b.store.told) (sym t.0) (by-pins command (Ok done) s.pins s.leaves.writes)
-      pins-told (Ok command) (Err why) s (inl t) = subst (λ g. PinsAfter (Ok command) g a.store.told b.store.told) (sym t.0) (by-pins command (Err why) s.pins s.leaves.writes)
-      pins-told (Ok command) (Err why) s (inr t) =
+      pub pins-told : (command : Command) (done : Result (Unit {0}) Refusal) → Does X N command done a b → TellsEnd Says done given → PinsAfter (Ok command) given a.store.told b.store.told
+      pins-told command (Ok done) s t = subst (λ g. PinsAfter (Ok command) g a.store.told b.store.told) (sym t.0) (by-pins command (Ok done) s.pins s.leaves.writes)
+      pins-told command (Err why) s (inl t) = subst (λ g. PinsAfter (Ok command) g a.store.told b.store.told) (sym t.0) (by-pins command (Err why) s.pins s.leaves.writes)
+      pins-told command (Err why) s (inr t) =
           subst (λ g. PinsAfter (Ok command) g a.store.told b.store.told) (sym t.1)
           (by-pins command (Err no_memory) (detailed-pins command why a.store.told b.store.told t.0 s.pins) (subst (λ d. WritesAs X (command_writes command) d a.store.told b.store.told) (detailed-undone (status_of why) t.0) s.leaves.writes))
 
       -- ---- no block is called bad before one was touched
 
-      -- words are refused for no block
-      no-blame : (asked why : Refusal) (done : Result (Unit {0}) Refusal) → done ≡ Err why → word_kinds (refusal_kind asked) ≡ true → (done ≡ Err asked) ⊎ (done ≡ Err no_memory) → status_of why ≢ status.BadBlock
-      no-blame asked why done is words (inl same) = λ bad. (let e : why ≡ asked = (let k : Err why ≡ Err asked = sym is ∙ same in cc) in (words-whole asked words).1 (ap status_of (sym e) ∙ bad))
-      no-blame asked why done is words (inr same) = λ bad. (let e : why ≡ no_memory = (let k : Err why ≡ Err no_memory = sym is ∙ same in cc) in let k : status.Memory ≡ status.BadBlock = ap status_of (sym e) ∙ bad in cc)
-
-      pub blamed-told : (asked : Result Command Refusal) (done : Result (Unit {0}) Refusal) → IsOfWords asked → Serves X N asked done a b → TellsEnd Says done given → given ≡ status.BadBlock → a.touches < b.touches
-      blamed-told asked (Ok done) words h t is = absurd (let k : status.Ok ≡ status.BadBlock = sym t.0 ∙ is in cc)
-      blamed-told (Ok command) (Err why) words h t is = by t
+      pub blamed-told : (command : Command) (done : Result (Unit {0}) Refusal) → Does X N command done a b → TellsEnd Says done given → given ≡ status.BadBlock → a.touches < b.touches
+      blamed-told command (Ok done) h t is = absurd (let k : status.Ok ≡ status.BadBlock = sym t.0 ∙ is in cc)
+      blamed-told command (Err why) h t is = by t
         where
           by : TellsWhy Says why given → a.touches < b.touches
           by (inl told) = h.touched (blaming-of why (sym told.0 ∙ is))
-          by (inr told) = absurd (let k : status.Memory ≡ status.BadBlock = sym told.1 ∙ is in cc)
-      blamed-told (Err asked) (Err why) words h t is = by t
-        where
-          by : TellsWhy Says why given → a.touches < b.touches
-          by (inl told) = absurd (no-blame asked why (Err why) refl words h.refused (sym told.0 ∙ is))
           by (inr told) = absurd (let k : status.Memory ≡ status.BadBlock = sym told.1 ∙ is in cc)
 
       -- ---- what is printed, and what is left
@@ -742,25 +685,16 @@ module _ (Says : List ℕ → Type 0) where
       same-done (Err why) (inl t) = ap is_done t.0
       same-done (Err why) (inr t) = ap is_done t.1 ∙ sym (detailed-undone (status_of why) t.0)
 
-      -- words that are refused print nothing
-      idle-prints : (why : Refusal) (done : Result (Unit {0}) Refusal) → IsOfWords (Err why) → (done ≡ Err why) ⊎ (done ≡ Err no_memory) → b ≡ a → PrintsAt (λ text. ⊤) false (ended done) a.held b.held
-      idle-prints why done words (inl is) same =
-          subst (λ d. PrintsAt (λ text. ⊤) false (ended d) a.held b.held) (sym is) ((quiet-of (λ text. ⊤) false why (λ e. unwritten why words e)).prints a.held b.held (ap (λ (x : Around). x.held) same))
-      idle-prints why done words (inr is) same = subst (λ d. PrintsAt (λ text. ⊤) false (ended d) a.held b.held) (sym is) (ap (λ (x : Around). x.held) same)
+      pub prints-told : (command : Command) (done : Result (Unit {0}) Refusal) → Does X N command done a b → TellsEnd Says done given
+          → PrintsAt (IsTextOf X N a.store.told b.store.told a.host.told command a.left) (flows command) given a.held b.held
+      prints-told command done s t = by-end (IsTextOf X N a.store.told b.store.told a.host.told command a.left) (flows command) done t s.prints
 
-      pub prints-told : (asked : Result Command Refusal) (done : Result (Unit {0}) Refusal) → IsOfWords asked → Serves X N asked done a b → TellsEnd Says done given
-          → PrintsAt (IsTextOf X N a.store.told b.store.told a.host.told asked a.left) (of_command flows false asked) given a.held b.held
-      prints-told (Ok command) done words s t = by-end (IsTextOf X N a.store.told b.store.told a.host.told (Ok command) a.left) (flows command) done t s.prints
-      prints-told (Err why) done words s t = by-end (λ text. ⊤) false done t (idle-prints why done words s.refused s.same)
+      pub writes-told : (command : Command) (done : Result (Unit {0}) Refusal) → Does X N command done a b → TellsEnd Says done given → WritesAs X (command_writes command) (is_done given) a.store.told b.store.told
+      writes-told command done s t = subst (λ d. WritesAs X (command_writes command) d a.store.told b.store.told) (sym (same-done done t)) s.leaves.writes
 
-      pub writes-told : (asked : Result Command Refusal) (done : Result (Unit {0}) Refusal) → Serves X N asked done a b → TellsEnd Says done given → WritesFor X asked (is_done given) a.store.told b.store.told
-      writes-told (Err asked) done s t = ap (λ (x : Around). x.store.told) s.same
-      writes-told (Ok command) done s t = subst (λ d. WritesAs X (command_writes command) d a.store.told b.store.told) (sym (same-done done t)) s.leaves.writes
-
-      pub head-told : (asked : Result Command Refusal) (done : Result (Unit {0}) Refusal) → Serves X N asked done a b → TellsEnd Says done given → may_move asked given ≡ false → head_in b.store.told ≡ head_in a.store.told
-      head-told (Err asked) done s t not = ap (λ (x : Around). head_in x.store.told) s.same
-      head-told (Ok command) (Ok done) s t not = absurd (let e : may_move (Ok command) status.Ok ≡ false = subst (λ g. may_move (Ok command) g ≡ false) t.0 not in cc)
-      head-told (Ok command) (Err why) s t not = kept (prints_after command) refl s.leaves.head
+      pub head-told : (command : Command) (done : Result (Unit {0}) Refusal) → Does X N command done a b → TellsEnd Says done given → may_move (Ok command) given ≡ false → head_in b.store.told ≡ head_in a.store.told
+      head-told command (Ok done) s t not = absurd (let e : may_move (Ok command) status.Ok ≡ false = subst (λ g. may_move (Ok command) g ≡ false) t.0 not in cc)
+      head-told command (Err why) s t not = kept (prints_after command) refl s.leaves.head
         where
           cut : TellsWhy Says why given → status_of why ≡ status.WriteFault → prints_after command ≡ false
           cut (inl t) is = subst (λ g. may_move (Ok command) g ≡ false) (t.0 ∙ is) not
@@ -775,71 +709,67 @@ module _ (Says : List ℕ → Type 0) where
       was-ok (Err why) (inl t) is = absurd (not-ok why (sym t.0 ∙ is))
       was-ok (Err why) (inr t) is = absurd (let e : status.Memory ≡ status.Ok = sym t.1 ∙ is in cc)
 
-      pub synced-told : (asked : Result Command Refusal) (done : Result (Unit {0}) Refusal) → Serves X N asked done a b → TellsEnd Says done given → given ≡ status.Ok → IsSyncedFor asked b.store.told
-      synced-told (Err asked) done s t is = tt
-      synced-told (Ok (Init p)) done s t is = tt
-      synced-told (Ok (Add true)) done s t is = tt
-      synced-told (Ok (Add false)) done s t is =
+      pub synced-told : (command : Command) (done : Result (Unit {0}) Refusal) → Does X N command done a b → TellsEnd Says done given → given ≡ status.Ok → IsSyncedFor command b.store.told
+      synced-told (Init p) done s t is = tt
+      synced-told (Add true) done s t is = tt
+      synced-told (Add false) done s t is =
           synced-of X a.store.told b.store.told (subst (λ d. WritesAs X (command_writes (Add false)) d a.store.told b.store.told) (was-ok done t is) s.leaves.writes)
-      synced-told (Ok (AddFrom recursive true path)) done s t is = tt
-      synced-told (Ok (AddFrom recursive false path)) done s t is =
+      synced-told (AddFrom recursive true path) done s t is = tt
+      synced-told (AddFrom recursive false path) done s t is =
           synced-of X a.store.told b.store.told (subst (λ d. WritesAs X (command_writes (AddFrom recursive false path)) d a.store.told b.store.told) (was-ok done t is) s.leaves.writes)
-      synced-told (Ok (AddTo dest)) done s t is = tt
-      synced-told (Ok (AddFromTo recursive path dest)) done s t is = tt
-      synced-told (Ok (WriteInput how path)) done s t is = tt
-      synced-told (Ok (At ask path)) done s t is = tt
-      synced-told (Ok (Read offset count path)) done s t is = tt
-      synced-told (Ok (Prove absent path)) done s t is = tt
-      synced-told (Ok (Cat path)) done s t is = tt
-      synced-told (Ok (Get path host_path)) done s t is = tt
-      synced-told (Ok (Export cid)) done s t is = tt
-      synced-told (Ok Import) done s t is =
+      synced-told (AddTo dest) done s t is = tt
+      synced-told (AddFromTo recursive path dest) done s t is = tt
+      synced-told (WriteInput how path) done s t is = tt
+      synced-told (At ask path) done s t is = tt
+      synced-told (Read offset count path) done s t is = tt
+      synced-told (Prove absent path) done s t is = tt
+      synced-told (Cat path) done s t is = tt
+      synced-told (Get path host_path) done s t is = tt
+      synced-told (Export cid) done s t is = tt
+      synced-told Import done s t is =
           synced-of X a.store.told b.store.told (subst (λ d. WritesAs X (command_writes Import) d a.store.told b.store.told) (was-ok done t is) s.leaves.writes)
-      synced-told (Ok (Same cid)) done s t is = tt
-      synced-told (Ok (Adopt source dest)) done s t is = tt
-      synced-told (Ok (Gen n seed)) done s t is = tt
-      synced-told (Ok (Pin ask)) done s t is = tt
+      synced-told (Same cid) done s t is = tt
+      synced-told (Adopt source dest) done s t is = tt
+      synced-told (Gen n seed) done s t is = tt
+      synced-told (Pin ask) done s t is = tt
 
-      pub good-told : (asked : Result Command Refusal) (done : Result (Unit {0}) Refusal) → Serves X N asked done a b → KeepsGood X a.store.told b.store.told
-      good-told (Err asked) done s = KeepsGood-same X a.store.told b.store.told (ap (λ (x : Around). x.store.told) s.same)
-      good-told (Ok command) done s = s.leaves.good
+      pub good-told : (command : Command) (done : Result (Unit {0}) Refusal) → Does X N command done a b → KeepsGood X a.store.told b.store.told
+      good-told command done s = s.leaves.good
 
-      pub told-same : (asked : Result Command Refusal) (done : Result (Unit {0}) Refusal) → Serves X N asked done a b → of_command only_reads true asked ≡ true → b.store.told ≡ a.store.told
-      told-same (Err asked) done s is = ap (λ (x : Around). x.store.told) s.same
-      told-same (Ok (Init p)) done s is = absurd cc
-      told-same (Ok (Add true)) done s is = s.leaves.writes
-      told-same (Ok (Add false)) done s is = absurd cc
-      told-same (Ok (AddTo dest)) done s is = absurd cc
-      told-same (Ok (AddFromTo recursive path dest)) done s is = absurd cc
-      told-same (Ok (WriteInput how path)) done s is = absurd cc
-      told-same (Ok (At (Ls long) path)) done s is = s.leaves.writes
-      told-same (Ok (At Stat path)) done s is = s.leaves.writes
-      told-same (Ok (At (Edits edit) path)) done s is = absurd cc
-      told-same (Ok (Read offset count path)) done s is = s.leaves.writes
-      told-same (Ok (Prove absent path)) done s is = s.leaves.writes
-      told-same (Ok (Cat path)) done s is = s.leaves.writes
-      told-same (Ok (Get path host_path)) done s is = s.leaves.writes
-      told-same (Ok (Export cid)) done s is = s.leaves.writes
-      told-same (Ok Import) done s is = absurd cc
-      told-same (Ok (Same cid)) done s is = s.leaves.writes
-      told-same (Ok (Adopt source dest)) done s is = absurd cc
-      told-same (Ok (Gen n seed)) done s is = s.leaves.writes
-      told-same (Ok (Pin (pins.Add cid))) done s is = absurd cc
-      told-same (Ok (Pin (pins.Remove cid))) done s is = absurd cc
-      told-same (Ok (Pin pins.List)) done s is = s.leaves.writes
-      told-same (Ok (AddFrom recursive true path)) done s is = s.leaves.writes
-      told-same (Ok (AddFrom recursive false path)) done s is = absurd cc
+      pub told-same : (command : Command) (done : Result (Unit {0}) Refusal) → Does X N command done a b → only_reads command ≡ true → b.store.told ≡ a.store.told
+      told-same (Init p) done s is = absurd cc
+      told-same (Add true) done s is = s.leaves.writes
+      told-same (Add false) done s is = absurd cc
+      told-same (AddTo dest) done s is = absurd cc
+      told-same (AddFromTo recursive path dest) done s is = absurd cc
+      told-same (WriteInput how path) done s is = absurd cc
+      told-same (At (Ls long) path) done s is = s.leaves.writes
+      told-same (At Stat path) done s is = s.leaves.writes
+      told-same (At (Edits edit) path) done s is = absurd cc
+      told-same (Read offset count path) done s is = s.leaves.writes
+      told-same (Prove absent path) done s is = s.leaves.writes
+      told-same (Cat path) done s is = s.leaves.writes
+      told-same (Get path host_path) done s is = s.leaves.writes
+      told-same (Export cid) done s is = s.leaves.writes
+      told-same Import done s is = absurd cc
+      told-same (Same cid) done s is = s.leaves.writes
+      told-same (Adopt source dest) done s is = absurd cc
+      told-same (Gen n seed) done s is = s.leaves.writes
+      told-same (Pin (pins.Add cid)) done s is = absurd cc
+      told-same (Pin (pins.Remove cid)) done s is = absurd cc
+      told-same (Pin pins.List) done s is = s.leaves.writes
+      told-same (AddFrom recursive true path) done s is = s.leaves.writes
+      told-same (AddFrom recursive false path) done s is = absurd cc
 
-      pub idle-told : (asked : Result Command Refusal) (done : Result (Unit {0}) Refusal) → Serves X N asked done a b → (p : Profile) (es : Entries) (bytes : List ℕ) → NamesOver X N a.store.told p es → HasInput asked a.left bytes a.reads b.reads → Stood a.store.faults b.store.faults
-          → of_command (is_idle bytes es) false asked ≡ true → b.store.told ≡ a.store.told
-      idle-told (Err asked) done s p es bytes stands input faults is = absurd cc
-      idle-told (Ok command) done s p es bytes stands input faults is = s.leaves.idle p es bytes stands (input, faults) is
+      pub idle-told : (command : Command) (done : Result (Unit {0}) Refusal) → Does X N command done a b → (p : Profile) (es : Entries) (bytes : List ℕ) → NamesOver X N a.store.told p es → HasInput (Ok command) a.left bytes a.reads b.reads → Stood a.store.faults b.store.faults
+          → is_idle bytes es command ≡ true → b.store.told ≡ a.store.told
+      idle-told command done s p es bytes stands input faults is = s.leaves.idle p es bytes stands (input, faults) is
 
       -- ---- over a store that stands
 
-      pub replies-told : (asked : Result Command Refusal) (done : Result (Unit {0}) Refusal) → Serves X N asked done a b → TellsEnd Says done given
-          → (world : World) → FindsWorld X N asked a.store.told world → HasOutside asked (outside_of world) a b → Calm a.store b.store → AllWritten asked a.writes b.writes a.host.writes b.host.writes → MetNone asked given → EndsAs Says X N asked world given a.held b.held b.store.told b.host.told
-      replies-told (Ok command) done s t world finds input calm write none =
+      pub replies-told : (command : Command) (done : Result (Unit {0}) Refusal) → Does X N command done a b → TellsEnd Says done given
+          → (world : World) → FindsWorld X N (Ok command) a.store.told world → HasOutside (Ok command) (outside_of world) a b → Calm a.store b.store → AllWritten (Ok command) a.writes b.writes a.host.writes b.host.writes → MetNone (Ok command) given → EndsAs Says X N (Ok command) world given a.held b.held b.store.told b.host.told
+      replies-told command done s t world finds input calm write none =
           by done (λ own. s.answers world finds input (record { store = calm; written = write; own = own })) t (stays done s)
         where
           stays : (done : Result (Unit {0}) Refusal) → Does X N command done a b → (why : Refusal) → done ≡ Err why → has_details (status_of why) ≡ true → StandsIf X N (needs_standing command) b.store.told world.standing
@@ -863,44 +793,22 @@ module _ (Says : List ℕ → Type 0) where
           by (Ok done) answers t stays = ok-by done (answers (λ generated e. cc)) t
           by (Err why) answers (inl told) stays = err-by why (answers (λ generated e. none generated (told.0 ∙ e))) told
           by (Err why) answers (inr told) stays = inl (record { status_is = told.1; says = told.2; stands = stays why refl told.0 })
-      replies-told (Err asked) done s t world finds input calm write none = by s.refused
-        where
-          held-same : b.held ≡ a.held
-          held-same = ap (λ (x : Around). x.held) s.same
-
-          stands : TellsAs X N b.store.told world.standing
-          stands = subst (λ (x : Around). TellsAs X N x.store.told world.standing) (sym s.same) finds.stands
-
-          by : (done ≡ Err asked) ⊎ (done ≡ Err no_memory) → EndsAs Says X N (Err asked) world given a.held b.held b.store.told b.host.told
-          by (inl is) = refused (subst (λ d. TellsEnd Says d given) is t)
-            where
-              refused : TellsWhy Says asked given → EndsAs Says X N (Err asked) world given a.held b.held b.store.told b.host.told
-              refused (inl told) = inr (record { status_is = told.0; says = told.1; printed = held-same; stands = stands; blocks = tells-none X N b.store.told world.standing stands }, tt)
-              refused (inr told) = inl (record { status_is = told.1; says = told.2; stands = stands })
-          by (inr is) = (let told = memory-told given (subst (λ d. TellsEnd Says d given) is t) in inl (record { status_is = told.0; says = told.1; stands = stands }))
 
       -- where only the output failed that follows the commit, what the reply says stands
-      pub unprinted-told : (asked : Result Command Refusal) (done : Result (Unit {0}) Refusal) → Serves X N asked done a b → TellsEnd Says done given
-          → (world : World) → of_command prints_after false asked ≡ true → given ≡ status.WriteFault → FindsWorld X N asked a.store.told world → HasOutside asked (outside_of world) a b → Calm a.store b.store
-          → LeavesNext X N (reply_to X N asked world) b.store.told
-      unprinted-told (Err asked) done s t world after is finds input calm = absurd cc
-      unprinted-told (Ok command) (Ok done) s t world after is finds input calm = absurd (let e : status.Ok ≡ status.WriteFault = sym t.0 ∙ is in cc)
-      unprinted-told (Ok command) (Err why) s (inl t) world after is finds input calm = s.unprinted world after (sym t.0 ∙ is) finds input calm
-      unprinted-told (Ok command) (Err why) s (inr t) world after is finds input calm = absurd (let e : status.Memory ≡ status.WriteFault = sym t.1 ∙ is in cc)
+      pub unprinted-told : (command : Command) (done : Result (Unit {0}) Refusal) → Does X N command done a b → TellsEnd Says done given
+          → (world : World) → prints_after command ≡ true → given ≡ status.WriteFault → FindsWorld X N (Ok command) a.store.told world → HasOutside (Ok command) (outside_of world) a b → Calm a.store b.store
+          → LeavesNext X N (reply X N command world) b.store.told
+      unprinted-told command (Ok done) s t world after is finds input calm = absurd (let e : status.Ok ≡ status.WriteFault = sym t.0 ∙ is in cc)
+      unprinted-told command (Err why) s (inl t) world after is finds input calm = s.unprinted world after (sym t.0 ∙ is) finds input calm
+      unprinted-told command (Err why) s (inr t) world after is finds input calm = absurd (let e : status.Memory ≡ status.WriteFault = sym t.1 ∙ is in cc)
 
       -- nothing but the beginning of the reply's text is printed
-      pub prefix-told : (asked : Result Command Refusal) (done : Result (Unit {0}) Refusal) → Serves X N asked done a b
-          → (world : World) → FindsOver X N a.store.told b.store.told asked world → HasOutside asked (outside_of world) a b → CountsCanRise a.store → PrintsPart (reply_to X N asked world).ends a.held b.held
-      prefix-told (Ok command) done s world finds input room = s.prefix world finds input room
-      prefix-told (Err asked) done s world finds input room = ap (λ (x : Around). x.held) s.same
+      pub prefix-told : (command : Command) (done : Result (Unit {0}) Refusal) → Does X N command done a b
+          → (world : World) → FindsOver X N a.store.told b.store.told (Ok command) world → HasOutside (Ok command) (outside_of world) a b → CountsCanRise a.store → PrintsPart (reply X N command world).ends a.held b.held
+      prefix-told command done s world finds input room = s.prefix world finds input room
 
       -- ---- no block is missing or bad
 
-      pub whole-told : (asked : Result Command Refusal) (done : Result (Unit {0}) Refusal) → IsOfWords asked → Serves X N asked done a b → TellsEnd Says done given
-          → (s : Standing) → of_command reads_tree_alone true asked ≡ true → TellsAs X N a.store.told s → Calm a.store b.store → FindsAll given
-      whole-told (Ok command) done words h t s needs stands calm = ended-told FindsAll done t (h.whole s needs stands calm) (λ e. cc, λ e. cc)
-      whole-told (Err asked) done words h t s needs stands calm = ended-told FindsAll done t (by h.refused) (λ e. cc, λ e. cc)
-        where
-          by : (done ≡ Err asked) ⊎ (done ≡ Err no_memory) → FindsAll (ended done)
-          by (inl is) = subst (λ d. FindsAll (ended d)) (sym is) (words-whole asked words)
-          by (inr is) = subst (λ d. FindsAll (ended d)) (sym is) (λ e. cc, λ e. cc)
+      pub whole-told : (command : Command) (done : Result (Unit {0}) Refusal) → Does X N command done a b → TellsEnd Says done given
+          → (s : Standing) → reads_tree_alone command ≡ true → TellsAs X N a.store.told s → Calm a.store b.store → FindsAll given
+      whole-told command done h t s needs stands calm = ended-told FindsAll done t (h.whole s needs stands calm) (λ e. cc, λ e. cc)

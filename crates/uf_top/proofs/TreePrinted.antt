@@ -123,7 +123,7 @@ module _ (X : List ℕ → List ℕ) (N : List ℕ → ℕ) (n seed : ℕ) (s : 
   pub ungenerated-does : (why : Refusal) → IsGenerated X N n seed (Err why) → Does X N (Gen n seed) (Err why) (around s l i h w t side) (around s l i h w t side)
   ungenerated-does why g =
       let of = of-generating why g in
-      let quiet = quiet-of (IsTextOf X N s.told s.told side.told (Ok (Gen n seed)) l) false why of.other in
+      let quiet = quiet-of (IsTextOf X N s.told s.told side.told (Gen n seed) l) false why of.other in
       record {
         answers = λ world finds input calm. answered world finds (of.says calm.own);
         lost = λ p es rows held outside named tells heights input calm. over p es held outside named (of.says calm.own);

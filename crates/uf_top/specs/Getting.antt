@@ -63,9 +63,9 @@ pub record GetsTo (source : DagPath) (path : List ℕ) (given : Status) (store :
   pub leaves : IfSome store (λ t. LeavesAt (held_at t) source path told now given)
 
 -- what `get` leaves on the host; of another command nothing is said here
-abbrev pub GetsFor : Result Command Refusal → Status → Told → HostTold → HostTold → Type 0
-GetsFor (Ok (Get source path)) given store told now = GetsTo source path given store told now
-GetsFor asked given store told now = ⊤
+abbrev pub GetsFor : Command → Status → Told → HostTold → HostTold → Type 0
+GetsFor (Get source path) given store told now = GetsTo source path given store told now
+GetsFor command given store told now = ⊤
 
 -- a refusal of a writing to the host: by what a reading says, by the host, or by the store
 abbrev pub IsOfGetting : Refusal → Type 0

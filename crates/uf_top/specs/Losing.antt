@@ -58,11 +58,6 @@ module _ (X : List ℕ → List ℕ) (N : List ℕ → ℕ) where
   command_needs rows (Prove absent path) p es = root_of X N p (Dir es) ++ blocks X N p (Dir es)
   command_needs rows other p es = []
 
-  -- the same of words
-  abbrev pub words_need : (ℕ → ℕ) → Result Command Refusal → Profile → Entries → List Held
-  words_need rows (Ok command) p es = command_needs rows command p es
-  words_need rows (Err why) p es = []
-
   module _ (before now : Told) where
     -- in the words below, these entries are the tree that the Head names before, of which these blocks are needed
     module _ (p : Profile) (es : Entries) (needs : List Held) where

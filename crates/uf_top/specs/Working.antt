@@ -115,15 +115,15 @@ module _ (X : List ℕ → List ℕ) (N : List ℕ → ℕ) where
     pub prefix : (w : World) → FindsOver X N before.store.told now.store.told (Ok command) w
         → HasOutside (Ok command) (outside_of w) before now → CountsCanRise before.store
         → PrintsPart (reply X N command w).ends before.held now.held
-    pub prints : PrintsAt (IsTextOf X N before.store.told now.store.told before.host.told (Ok command) before.left)
+    pub prints : PrintsAt (IsTextOf X N before.store.told now.store.told before.host.told command before.left)
         (flows command) (ended done) before.held now.held
     pub kinds : IsOf (may_close (kinds_of command)) done
     pub ready : IsReady before.store.told command done
-    pub rule : IfErr done (λ why. status_of why ≡ status.Rule → RuleOf (Ok command) why before.store.told before.left
+    pub rule : IfErr done (λ why. status_of why ≡ status.Rule → RuleOf command why before.store.told before.left
         now.left)
     pub reads : Counts (is_input_read command done) before.reads now.reads
     pub host : TakesHost (writes_host command) (uses_host command) (is_read done) (is_write done) before.host now.host
-    pub gets : GetsFor (Ok command) (ended done) before.store.told before.host.told now.host.told
+    pub gets : GetsFor command (ended done) before.store.told before.host.told now.host.told
     pub pins : PinsFor command done before.store.told now.store.told
     pub writes : RisesFor (is_output_write command done) before.writes now.writes
     pub cause : Shown X (IsBadIn X N before.store.told now.store.told) (refusal_fault done) before.store now.store
