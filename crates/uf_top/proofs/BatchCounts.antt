@@ -39,7 +39,7 @@ module _ (text : List ℕ) (printed errors : SinkSide) (b : Scene) where
   unmarked-counted same = record { store = rises-refl b.around.store; reads = omega arith; writes = inl (ap (λ (s : SinkSide). s.faults) same); host_reads = omega arith; host_writes = omega arith }
 
 -- a status is that of a failed writing or it isn't
-is-write-fault : (given : Status) → (given ≡ status.WriteFault) ⊎ (given ≡ status.WriteFault → ⊥)
+pub is-write-fault : (given : Status) → (given ≡ status.WriteFault) ⊎ (given ≡ status.WriteFault → ⊥)
 is-write-fault status.Ok = inr (λ e. cc)
 is-write-fault status.Rule = inr (λ e. cc)
 is-write-fault status.Usage = inr (λ e. cc)

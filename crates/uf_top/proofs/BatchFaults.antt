@@ -15,12 +15,12 @@ use Rattle.uf_top.specs.Running.{TellsFaults}
 use Rattle.uf_top.proofs.Ran.{line-ran}
 
 -- no count has risen
-record Still (a b : Around) : Type 0 where
-  faults : b.store.faults ≤ a.store.faults
-  clashes : b.store.clashes ≤ a.store.clashes
-  host_reads : b.host.reads ≤ a.host.reads
-  host_writes : b.host.writes ≤ a.host.writes
-  writes : b.writes ≤ a.writes
+pub record Still (a b : Around) : Type 0 where
+  pub faults : b.store.faults ≤ a.store.faults
+  pub clashes : b.store.clashes ≤ a.store.clashes
+  pub host_reads : b.host.reads ≤ a.host.reads
+  pub host_writes : b.host.writes ≤ a.host.writes
+  pub writes : b.writes ≤ a.writes
 
 still-same : (a b : Around) → b ≡ a → Still a b
 still-same a b same = record {
@@ -85,7 +85,7 @@ module _ (X : List ℕ → List ℕ) (N : List ℕ → ℕ) where
   gone-still line a b (inl none) = still-same a.around b.around (ap (λ (s : Scene). s.around) none.1)
   gone-still line a b (inr passed) = passed-still line a b passed
 
-  lines-still : (lines : List (List ℕ)) (a b : Scene) → LinesDone X N lines a b → Still a.around b.around
+  pub lines-still : (lines : List (List ℕ)) (a b : Scene) → LinesDone X N lines a b → Still a.around b.around
   lines-still [] a b same = still-same a.around b.around (ap (λ (s : Scene). s.around) same)
   lines-still (line ∷ lines) a b done = still-then a.around done.0.around b.around (gone-still line a done.0 done.1) (lines-still lines done.0 b done.2)
 

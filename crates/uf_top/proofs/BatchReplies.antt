@@ -35,6 +35,20 @@ use Rattle.uf_top.proofs.Pins.{noted-pins, pins-good, pins-head}
 use Rattle.uf_top.proofs.Ran.{line-ran}
 use Rattle.uf_top.proofs.Standings.{stands-kept}
 
+-- ---- texts one after the other
+
+pub after-then : (held : streams.Told) (x y : List ℕ) → streams.after (streams.after held x) y ≡ streams.after held (x ++ y)
+after-then None x y = refl
+after-then (Some h) x y = ap (λ (l : List ℕ). Some l) (append_assoc h x y)
+
+pub after-nothing : (held : streams.Told) → held ≡ streams.after held []
+after-nothing None = refl
+after-nothing (Some h) = ap (λ (l : List ℕ). Some l) (sym (append-nil h))
+
+pub all-printed : (ends : Result (List ℕ) Refusal) (held now : streams.Told) → PrintsAll ends held now → now ≡ streams.after held (printed_by ends)
+all-printed (Ok text) held now is = is
+all-printed (Err why) held now is = is ∙ after-nothing held
+
 -- ---- what stands after a command that suits a batch
 
 module _ (X : List ℕ → List ℕ) (N : List ℕ → ℕ) where
@@ -47,7 +61,7 @@ module _ (X : List ℕ → List ℕ) (N : List ℕ → ℕ) where
   if-needed false None s stands = absurd stands
   if-needed false (Some t) s stands = refl
 
-  names-if : (needs : Bool) (a b : Told) (s : Standing) → KeepsGood X a b → TellsAs X N a s → NamesIf X N a b needs s
+  pub names-if : (needs : Bool) (a b : Told) (s : Standing) → KeepsGood X a b → TellsAs X N a s → NamesIf X N a b needs s
   names-if true a b NoHead good stands = stands
   names-if true a b BadHead good stands = stands
   names-if true a b (Stands p es) good stands = named-of X N a b p es stands good
@@ -201,14 +215,14 @@ module _ (X : List ℕ → List ℕ) (N : List ℕ → ℕ) where
 
   module _ (host : HostTree) where
     -- what is so where the lines go on
-    abbrev GoesOn : Scene → Standing → Type 0
+    abbrev pub GoesOn : Scene → Standing → Type 0
     GoesOn a s = (a.around.host.told ≡ Some host) × TellsAs X N a.around.store.told s
 
     goes-same : (a b : Scene) (s : Standing) → b.around ≡ a.around → GoesOn a s → GoesOn b s
     goes-same a b s same h = subst (λ (x : Around). (x.host.told ≡ Some host) × TellsAs X N x.store.told s) (sym same) h
 
     -- before a line's status was printed
-    abbrev before-mark : SinkSide → Scene → Scene
+    abbrev pub before-mark : SinkSide → Scene → Scene
     before-mark printed b = with_sinks printed b.errors b
 
     passed-replied : (line : List ℕ) (a b : Scene) (s : Standing) (p : LinePassed X N line a b) → GoesOn a s → NothingFails a.around b.around → (next : Standing) × LineReplied X N host line false p.given s next a b × GoesOn b next
@@ -222,7 +236,7 @@ module _ (X : List ℕ → List ℕ) (N : List ℕ → ℕ) where
     gone-replied line a b s (inl none) on h = (s, inl (none.0, refl, none.1), goes-same a b s (ap (λ (x : Scene). x.around) none.1) on)
     gone-replied line a b s (inr passed) on h = (let r = passed-replied line a b s passed on h in (r.0, inr (passed.given, r.1), r.2))
 
-    lines-replied : (lines : List (List ℕ)) (a b : Scene) (s : Standing) → LinesDone X N lines a b → GoesOn a s → NothingFails a.around b.around → (next : Standing) × LinesReplied X N host lines s next a b × GoesOn b next
+    pub lines-replied : (lines : List (List ℕ)) (a b : Scene) (s : Standing) → LinesDone X N lines a b → GoesOn a s → NothingFails a.around b.around → (next : Standing) × LinesReplied X N host lines s next a b × GoesOn b next
     lines-replied [] a b s same on h = (s, (refl, same), goes-same a b s (ap (λ (x : Scene). x.around) same) on)
     lines-replied (line ∷ lines) a b s done on h =
         rest first (lines-replied lines done.0 b first.0 done.2 first.2 (fails-last a.around done.0.around b.around early late h))
@@ -338,18 +352,6 @@ module _ (X : List ℕ → List ℕ) (N : List ℕ → ℕ) where
 
     -- ---- what is printed
 
-    after-then : (held : streams.Told) (x y : List ℕ) → streams.after (streams.after held x) y ≡ streams.after held (x ++ y)
-    after-then None x y = refl
-    after-then (Some h) x y = ap (λ (l : List ℕ). Some l) (append_assoc h x y)
-
-    after-nothing : (held : streams.Told) → held ≡ streams.after held []
-    after-nothing None = refl
-    after-nothing (Some h) = ap (λ (l : List ℕ). Some l) (sym (append-nil h))
-
-    all-printed : (ends : Result (List ℕ) Refusal) (held now : streams.Told) → PrintsAll ends held now → now ≡ streams.after held (printed_by ends)
-    all-printed (Ok text) held now is = is
-    all-printed (Err why) held now is = is ∙ after-nothing held
-
     line-prints : (line : List ℕ) (last : Bool) (given : Status) (s next : Standing) (a b : Scene) (r : LineReplied X N host line last given s next a b) → (given ≡ status.Memory → ⊥)
         → b.around.held ≡ streams.after a.around.held (line_printed X N host line given s next a (before-mark r.printed b) r.answered)
     line-prints line last given s next a b r not = by r.answered.ends
@@ -371,7 +373,7 @@ module _ (X : List ℕ → List ℕ) (N : List ℕ → ℕ) where
     then-prints : (a m b : streams.Told) (x y : List ℕ) → m ≡ streams.after a x → b ≡ streams.after m y → b ≡ streams.after a (x ++ y)
     then-prints a m b x y first then = then ∙ ap (λ (h : streams.Told). streams.after h y) first ∙ after-then a x y
 
-    lines-print : (lines : List (List ℕ)) (s next : Standing) (a b : Scene) (each : LinesReplied X N host lines s next a b) → b.around.held ≡ streams.after a.around.held (lines_printed X N host lines s next a b each)
+    pub lines-print : (lines : List (List ℕ)) (s next : Standing) (a b : Scene) (each : LinesReplied X N host lines s next a b) → b.around.held ≡ streams.after a.around.held (lines_printed X N host lines s next a b each)
     lines-print [] s next a b each = same-prints a b (ap (λ (x : Scene). x.around) each.1)
     lines-print (line ∷ lines) s next a b each =
         then-prints a.around.held each.1.around.held b.around.held (going_printed X N host line s each.0 a each.1 each.2) (lines_printed X N host lines each.0 next each.1 b each.3)

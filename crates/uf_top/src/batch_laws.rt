@@ -3,6 +3,7 @@ ghost use Rattle.std.specs.Prelude.{◌≡◌, ◌≢◌, ◌⊎◌, ◌+◌, �
 ghost use Rattle.uf_edge.specs.Counts.{Stood};
 ghost use Rattle.uf_edge.specs.Host.{HostTree};
 ghost use Rattle.uf_edge.specs.Streams.{after};
+ghost use Rattle.uf_mfs.specs.Reading.{CanRise};
 ghost use Rattle.uf_mfs.specs.Standing.{TellsAs, head_in};
 ghost use Rattle.uf_command.specs.declared.status.Status.{Status as TheStatus};
 ghost use Rattle.uf_command.specs.declared.status.Status.TheVariants as status;
@@ -16,6 +17,8 @@ ghost use Rattle.uf_tree.specs.declared.profile.Profile.{Profile};
 ghost use Rattle.uf_top.specs.Batch.{Batches, Ending, Scene, without_input};
 ghost use Rattle.uf_top.specs.BatchLines.{BeginsSafe, MovesByLine, PassesNoneOver, StopsAtFirst, StopsInLine};
 ghost use Rattle.uf_top.specs.BatchReplies.{BatchReplied, HasHeights, NothingFails, batch_bound, batch_printed};
+ghost use Rattle.uf_top.specs.BatchReplies.{lines_printed};
+ghost use Rattle.uf_top.specs.BatchTexts.{FailsAtMostPrinting, PrintsUntil, SaidInTurn, batch_said};
 ghost use Rattle.uf_top.specs.Outcomes.{IsSafeFor};
 
 /// A batch keeps each good block, whatever its lines do and however it ends.
@@ -71,6 +74,34 @@ pub fn a_batch_prints_its_replies()
         → (did : BatchReplied X N host lines ending given standing before between now) → given ≢ status.Memory
         → now.around.held
         ≡ after before.around.held (batch_printed X N host lines ending given standing before between now did) }
+{}
+
+/// Whatever becomes of the output of a batch: over a store that stands for a tree (or has no Head, or one that isn't
+/// read), and a host that tells, where nothing of the store or of the host failed, no clash was met and the output's
+/// count isn't at its last value, each line but the last was answered, and its text and its status were printed. Of
+/// the last line the output has got a prefix of the reply's text and status, unless the batch is out of memory.
+pub fn a_batch_prints_until_its_output_fails()
+    ensures until { (X : List ℕ → List ℕ) (N : List ℕ → ℕ) (host : HostTree) (most limit : ℕ) (given : TheStatus)
+        (before now : Scene) (standing : Standing)
+        → (did : Batches X N most limit given before now)
+        → before.around.host.told ≡ Some host → TellsAs X N before.around.store.told standing
+        → FailsAtMostPrinting before.around now.around → CanRise before.around.writes → given ≢ status.Memory
+        → PrintsUntil X N host did.lines did.ending standing (without_input before) did.between (without_input now) }
+    ensures lines { (X : List ℕ → List ℕ) (N : List ℕ → ℕ) (host : HostTree) (lines : List (List ℕ))
+        (ending : Ending X N) (standing : Standing) (before between now : Scene)
+        → (did : PrintsUntil X N host lines ending standing before between now) → between.around.held
+        ≡ after before.around.held (lines_printed X N host lines standing did.stood before between did.each) }
+{}
+
+/// Where a batch whose lines are answered so doesn't end for out of memory, `errors` has got of each line that has a
+/// word the error line of its reply, which is empty at Ok, and then that the input is too long, where it is. Each went
+/// whole, or in part where writing it failed.
+pub fn a_batch_reports_its_refusals()
+    ensures { (X : List ℕ → List ℕ) (N : List ℕ → ℕ) (host : HostTree) (lines : List (List ℕ))
+        (ending : Ending X N) (given : TheStatus) (standing : Standing) (before between now : Scene)
+        → (did : BatchReplied X N host lines ending given standing before between now) → given ≢ status.Memory
+        → SaidInTurn (batch_said X N host lines ending given standing before between now did) before.errors
+        now.errors }
 {}
 
 /// A batch whose lines are answered so makes no more touches than the bounds of its lines together, each over what
