@@ -2,8 +2,9 @@
 ghost use Rattle.std.specs.Prelude.{◌≡◌, ◌<◌, ◌^◌, ℕ, Bool, IsTrue, List, None, Ok, Some, false};
 ghost use Rattle.std.specs.declared.option.Option.{Option};
 ghost use Rattle.std.specs.declared.result.Result.{Result};
+ghost use Rattle.uf_car.specs.Reading.{car_read};
 ghost use Rattle.uf_cid.specs.declared.cid.Cid.{Cid};
-ghost use Rattle.uf_mfs.specs.Reading.{AreHeights};
+ghost use Rattle.uf_mfs.specs.Reading.{AreHeights, CanRise};
 ghost use Rattle.uf_mfs.specs.Standing.{Commits, NamesOver, TellsAs, head_in};
 ghost use Rattle.uf_store.specs.Contents.{Contents, Told};
 ghost use Rattle.uf_store.specs.Keeping.{KeepsGood};
@@ -13,12 +14,14 @@ ghost use Rattle.uf_tree.specs.Standing.{Standing, Stands};
 ghost use Rattle.uf_tree.specs.Tree.{Entries};
 ghost use Rattle.uf_tree.specs.Validity.{IsHash};
 ghost use Rattle.uf_tree.specs.declared.profile.Profile.{Profile};
+ghost use Rattle.uf_command.specs.Cars.{most_car};
 ghost use Rattle.uf_command.specs.Natures.{MakesHead};
 ghost use Rattle.uf_command.specs.declared.status.Status.TheVariants as status;
 ghost use Rattle.uf_command.specs.declared.types.Command.{Command};
 ghost use Rattle.uf_command.specs.declared.types.Command.TheVariants as commands;
 ghost use Rattle.uf_command.specs.declared.types.Refusal.{Refusal};
-ghost use Rattle.uf_top.specs.Added.{KeepsHosted, KeepsInput};
+ghost use Rattle.uf_top.specs.Added.{EachHolds, KeepsHosted, KeepsInput};
+ghost use Rattle.uf_top.specs.Around.{CountsCanRise};
 ghost use Rattle.uf_top.specs.Batch.{Said, Scene};
 ghost use Rattle.uf_top.specs.Collecting.{EachSweepOutcome, kept_in};
 ghost use Rattle.uf_top.specs.Naming.{StaysNamed};
@@ -91,6 +94,16 @@ pub fn a_stop_after_add_leaves_its_blocks()
         status.Ok before.around now.around
         → before.around.store.told ≡ Some a → now.around.store.told ≡ Some b → IsPlain a
         → KeepsHosted X N recursive path before.around now.around a b }
+{}
+
+/// Where a store tells what was written, whatever its Head, each block of the sections of a CAR that `dag import` has
+/// read to its end is held whatever a stop leaves. No count may be at its last value.
+pub fn a_stop_after_an_import_leaves_its_blocks()
+    ensures { (X : List ℕ → List ℕ) (N : List ℕ → ℕ) (before now : Scene) (a b : Contents) (bytes : List ℕ)
+        → Runs (Said before.errors now.errors) X N (Ok commands.Import) status.Ok before.around now.around
+        → before.around.store.told ≡ Some a → now.around.store.told ≡ Some b → IsPlain a
+        → before.around.left ≡ Some bytes → CountsCanRise before.around.store → CanRise before.around.reads
+        → CanRise before.around.writes → EachHolds (car_read X most_car bytes).sections b.writes }
 {}
 
 /// Where a store is safe for a tree, each stop in the course of a collection's sweep, which keeps what the notes lead
