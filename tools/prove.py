@@ -1,4 +1,5 @@
-"""Makes the library, or the program, of the crate of this folder with the kit's own prover, as the kit's gate does.
+"""Makes the library, or the program, of the crate of this folder with the kit's own prover, as the kit's gate does, but for
+its search for contracts that no call can meet: that changes no verdict, and the gate does it.
 
     prove.py lib JOBS
     prove.py run JOBS [WORD..]
@@ -46,6 +47,8 @@ def by_parts(parts, verb, jobs, words):
     """Does it with the kit's own functions; the status."""
     parts.guarded()
     parts.Crate.stamp = functools.lru_cache(maxsize=None)(parts.Crate.stamp)
+    words_of = parts.help_of
+    parts.help_of = lambda verb: words_of(verb).replace("--empty-contracts", "")
     if verb == "lib":
         return make_library(parts, jobs)
     return parts.main(verb, "--jobs", jobs, "--", *words)
