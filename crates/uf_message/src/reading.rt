@@ -1,9 +1,9 @@
 //! Messages read leniently.
-ghost use Rattle.std.specs.Prelude.{◌≡◌, [], ◌%◌, ◌^◌, ◌≤◌, ◌<◌, IfOk, length, Ok};
+ghost use Rattle.std.specs.Prelude.{◌≡◌, [], ◌∷◌, ◌%◌, ◌^◌, ◌≤◌, ◌<◌, IfOk, length, Ok};
 ghost use Rattle.std.specs.Option.{option_map};
-ghost use Rattle.uf_varint.specs.Fields.{number_at, bytes_at, content_at, fields};
-ghost use Rattle.uf_message.specs.Reading.{run, selected, message_reads, message_of, kind_of};
-ghost use Rattle.uf_message.specs.Steps.{Gives, added, cut_of, selection, took};
+ghost use Rattle.uf_varint.specs.Fields.{Bytes, Keyed, Number, number_at, bytes_at, content_at, fields};
+ghost use Rattle.uf_message.specs.Reading.{judged, kind_of, message_of, message_reads, packed_fault, run, selected};
+ghost use Rattle.uf_message.specs.Steps.{Gives, added, cut_of, over, selection, took};
 
 use crate::seen::Seen;
 use crate::times::time;
@@ -55,15 +55,6 @@ fn take_run(sizes: &mut Sizes, bytes: &[u8]) -> Result<(), MsgFault>
     Ok(())
 }
 
-// Keeps what was read as the last of its field, and gives the bytes that follow it.
-macro_rules! last {
-    ($field:expr, $read:expr) => {{
-        let (value, after) = $read?;
-        $field = Some(value);
-        Ok(after)
-    }};
-}
-
 impl<'a> Seen<'a> {
     // Nothing was seen.
     fn new(alloc: Global) -> Self
@@ -89,26 +80,50 @@ impl<'a> Seen<'a> {
         ensures shorter { IfOk result (λ after. length after.now ≤ length rest.now) }
     {
         match key {
-            0x08 => last!(self.kind, number(rest)),
-            0x12 => last!(self.content, piece(rest)),
-            0x18 => last!(self.filesize, number(rest)),
-            0x20 => {
-                let (size, after) = number(rest)?;
-                self.sizes.push(size)?;
+            0x08 | 0x18 | 0x20 | 0x28 | 0x30 | 0x38 => {
+                let (value, after) = number(rest)?;
+                self.keep_number(key, value)?;
                 Ok(after)
             }
-            0x22 => {
-                let (sizes, after) = piece(rest)?;
-                take_run(&mut self.sizes, sizes)?;
+            0x12 | 0x22 | 0x42 => {
+                let (value, after) = piece(rest)?;
+                self.keep_bytes(key, value)?;
                 Ok(after)
             }
-            0x28 => last!(self.hash_type, number(rest)),
-            0x30 => last!(self.fanout, number(rest)),
-            0x38 => last!(self.mode, number(rest)),
-            0x42 => last!(self.mtime, piece(rest)),
             0..=71 => Err(MsgFault::Wire),
             _ => Ok(skip_content(key % 8, rest)?),
         }
+    }
+
+    // Keeps a number as the last of the field of its key, or puts it to the sizes of blocks.
+    fn keep_number(&mut self, key: u64, number: u64) -> Result<(), MsgFault>
+        ensures { Gives (λ _. selection self.new) result
+            (Ok (over (selected (Keyed key (Ok (Number number)) ∷ [])) (selection self.old))) }
+    {
+        match key {
+            0x08 => self.kind = Some(number),
+            0x18 => self.filesize = Some(number),
+            0x20 => self.sizes.push(number)?,
+            0x28 => self.hash_type = Some(number),
+            0x30 => self.fanout = Some(number),
+            0x38 => self.mode = Some(number),
+            _ => {}
+        }
+        Ok(())
+    }
+
+    // Keeps bytes as the last of the field of their key, or puts those that are packed sizes to the sizes of blocks.
+    fn keep_bytes(&mut self, key: u64, bytes: &'a [u8]) -> Result<(), MsgFault>
+        ensures { Gives (λ _. selection self.new) result (judged (packed_fault key (Bytes bytes.now))
+            (Ok (over (selected (Keyed key (Ok (Bytes bytes.now)) ∷ [])) (selection self.old)))) }
+    {
+        match key {
+            0x12 => self.content = Some(bytes),
+            0x22 => take_run(&mut self.sizes, bytes)?,
+            0x42 => self.mtime = Some(bytes),
+            _ => {}
+        }
+        Ok(())
     }
 
     // The message of what was seen.

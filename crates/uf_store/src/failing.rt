@@ -7,7 +7,7 @@ use uf_cid::Memory;
 use uf_edge::Calls;
 
 /// A kind of call of a store.
-#[derive(Clone, Copy, Debug, PartialEq, Eq)]
+#[derive(Clone, Copy, PartialEq, Eq)]
 pub enum CallKind {
     Load,
     Save,

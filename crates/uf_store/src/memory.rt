@@ -4,7 +4,7 @@ ghost use Rattle.std.specs.Prelude.{take, Some, None, IsSome, Contains, OnOk, On
 ghost use Rattle.std.specs.FinMap.{from_entries, insert, len};
 ghost use Rattle.uf_store.specs.Whole.{IsWhole};
 ghost use Rattle.uf_cid.specs.Cid.{cid_cmp};
-ghost use Rattle.uf_store.specs.Contents.{changed, held_at};
+ghost use Rattle.uf_store.specs.Contents.{changed, held_at, with_text};
 ghost use Rattle.uf_store.specs.Failing.{IsDue, failures_with, ticked, with_failure, no_failures};
 ghost use Rattle.uf_store.specs.Sweeping.{Sweeps, is_among, part_of, swept};
 ghost use Rattle.uf_store.specs.Seen.{Loads, Looks, NoOther, ReadsNote, Saves, Seen, Syncs, WritesNote};
@@ -38,8 +38,8 @@ pub struct MemStore<X: BlockHash> {
 }
 
 impl<X: BlockHash> MemStore<X> {
-    ghost use Rattle.uf_store.specs.InMemory.{contents_of, failures_of, memory_seen, new_seen, with_block};
-    ghost use Rattle.uf_store.specs.InMemory.{without_block};
+    ghost use Rattle.uf_store.specs.InMemory.{HoldsDamaged, contents_of, failures_of, memory_seen, new_seen};
+    ghost use Rattle.uf_store.specs.InMemory.{with_block, without_block};
     ghost use Rattle.uf_store.specs.Stops.{IsPlain, after_stop, with_write, written};
 
     /// A store that holds nothing.
@@ -103,16 +103,25 @@ impl<X: BlockHash> MemStore<X> {
         ensures plain { IfOk result (λ s. IsPlain (contents_of s)) }
         ensures failures { IfOk result (λ s. failures_of s ≡ no_failures) }
     {
-        let writes = &self.writes[..at];
-        let firm = behind_sync(writes);
         let mut store = MemStore::new(self.alloc);
+        store.redo_survivors(&self.writes[..at], lost)?;
+        Ok(store)
+    }
+
+    // Makes again, in a new store, those of these writes that survive a stop after them, and one sync.
+    fn redo_survivors(&mut self, writes: &[Write], lost: &Calls) -> Result<(), Memory>
+        requires { memory_seen self.old ≡ new_seen }
+        ensures ok { OnOk result (memory_seen self.new
+            ≡ record new_seen { told = Some (written (after_stop lost.now writes.now)) }) }
+        ensures failures { failures_of self.new ≡ failures_of self.old }
+    {
+        let firm = behind_sync(writes);
         for (place, write) in writes.iter().enumerate() {
             if survives(lost, firm, place, write) {
-                store.redo(write)?;
+                self.redo(write)?;
             }
         }
-        store.redo(&Write::Synced)?;
-        Ok(store)
+        self.redo(&Write::Synced)
     }
 
     // Makes a past write again.
@@ -123,15 +132,13 @@ impl<X: BlockHash> MemStore<X> {
     {
         match write {
             Write::Saved(cid, block) => {
-                let kept = block.copy()?;
-                let copy = block.copy()?;
-                let is_good = is_whole::<X>(cid, &kept);
+                let is_good = is_whole::<X>(cid, block);
                 keep(
+                    self.alloc,
                     &mut self.blocks,
                     &mut self.writes,
-                    *cid,
-                    kept,
-                    copy,
+                    cid,
+                    block.as_slice(),
                     is_good,
                 )
             }
@@ -139,16 +146,83 @@ impl<X: BlockHash> MemStore<X> {
                 self.writes.push(Write::Synced)?;
                 Ok(())
             }
-            Write::Noted(which, text) => {
-                let noted = text.copy()?;
-                let copy = text.copy()?;
-                self.writes.push(Write::Noted(*which, copy))?;
-                match which {
-                    Note::Head => self.head = Some(noted),
-                    Note::Pins => self.pins = Some(noted),
-                }
-                Ok(())
+            Write::Noted(which, text) => self.note(*which, text.as_slice()),
+        }
+    }
+
+    // Sets the text of a note, and notes that it was written.
+    fn note(&mut self, which: Note, bytes: &[u8]) -> Result<(), Memory>
+        ensures ok { OnOk result (memory_seen self.new
+            ≡ record (memory_seen self.old) { told = Some (with_text which bytes.now (contents_of self.old)) }) }
+        ensures err { OnErr result (memory_seen self.new ≡ memory_seen self.old) }
+        ensures failures { failures_of self.new ≡ failures_of self.old }
+    {
+        let text = Block::from_slice(self.alloc, bytes)?;
+        let copy = Block::from_slice(self.alloc, bytes)?;
+        self.writes.push(Write::Noted(which, copy))?;
+        match which {
+            Note::Head => self.head = Some(text),
+            Note::Pins => self.pins = Some(text),
+        }
+        Ok(())
+    }
+
+    // Lends the block under a CID, where it is there and whole.
+    fn lend(&mut self, cid: &Cid) -> Load
+        ensures seen { Loads X.block32 cid.now result (memory_seen self.old) (memory_seen self.new) }
+        ensures runs { result ≢ Load.Failed }
+        ensures missing { held_at (contents_of self.old) cid.now ≡ None → result ≡ Load.Missing }
+        ensures damaged { (result ≡ Load.Damaged) ↔ HoldsDamaged X.block32 cid.now (contents_of self.old) }
+        ensures failures { failures_of self.new ≡ failures_of self.old }
+    {
+        let Some(block) = self.blocks.get(cid) else {
+            self.misses = self.misses.saturating_add(1);
+            return Load::Missing;
+        };
+        if self.blocks.is_damaged(cid, block) {
+            self.faults = self.faults.saturating_add(1);
+            return Load::Damaged;
+        }
+        match block.copy() {
+            Ok(copy) => {
+                self.lent = copy;
+                self.finds = self.finds.saturating_add(1);
+                Load::Found
             }
+            Err(_) => Load::Memory,
+        }
+    }
+
+    // Keeps a block under its CID, or lends the other one of its digest that is held there.
+    fn keep_or_lend(&mut self, cid: &Cid, bytes: &[u8]) -> Save
+        requires { IsWhole X.block32 cid.now bytes.now }
+        ensures seen { Saves X.block32 cid.now bytes.now result (memory_seen self.old) (memory_seen self.new) }
+        ensures runs { result ≢ Save.Failed }
+        ensures clash { result ≡ Save.Clash → ¬ NoOther X.block32 cid.now bytes.now (contents_of self.old) }
+        ensures failures { failures_of self.new ≡ failures_of self.old }
+    {
+        if let Some(held) = self.blocks.get(cid) {
+            if held.as_slice() != bytes && X::block32(held.as_slice()) == cid.digest {
+                return match held.copy() {
+                    Ok(copy) => {
+                        self.lent = copy;
+                        self.clashes = self.clashes.saturating_add(1);
+                        Save::Clash
+                    }
+                    Err(_) => Save::Memory,
+                };
+            }
+        }
+        match keep(
+            self.alloc,
+            &mut self.blocks,
+            &mut self.writes,
+            cid,
+            bytes,
+            true,
+        ) {
+            Ok(()) => Save::Done,
+            Err(_) => Save::Memory,
         }
     }
 
@@ -227,22 +301,7 @@ impl<X: BlockHash> Store for MemStore<X> {
             self.faults = self.faults.saturating_add(1);
             return Load::Failed;
         }
-        let Some(block) = self.blocks.get(cid) else {
-            self.misses = self.misses.saturating_add(1);
-            return Load::Missing;
-        };
-        if self.blocks.is_damaged(cid, block) {
-            self.faults = self.faults.saturating_add(1);
-            return Load::Damaged;
-        }
-        match block.copy() {
-            Ok(copy) => {
-                self.lent = copy;
-                self.finds = self.finds.saturating_add(1);
-                Load::Found
-            }
-            Err(_) => Load::Memory,
-        }
+        self.lend(cid)
     }
 
     fn holds<L: Ledger>(&mut self, cid: &Cid, touches: &mut Steps<L>) -> Presence
@@ -292,28 +351,7 @@ impl<X: BlockHash> Store for MemStore<X> {
             self.faults = self.faults.saturating_add(1);
             return Save::Failed;
         }
-        if let Some(held) = self.blocks.get(cid) {
-            if held.as_slice() != bytes && X::block32(held.as_slice()) == cid.digest {
-                return match held.copy() {
-                    Ok(copy) => {
-                        self.lent = copy;
-                        self.clashes = self.clashes.saturating_add(1);
-                        Save::Clash
-                    }
-                    Err(_) => Save::Memory,
-                };
-            }
-        }
-        let Ok(block) = Block::from_slice(self.alloc, bytes) else {
-            return Save::Memory;
-        };
-        let Ok(copy) = Block::from_slice(self.alloc, bytes) else {
-            return Save::Memory;
-        };
-        match keep(&mut self.blocks, &mut self.writes, *cid, block, copy, true) {
-            Ok(()) => Save::Done,
-            Err(_) => Save::Memory,
-        }
+        self.keep_or_lend(cid, bytes)
     }
 
     fn sync(&mut self) -> Put
@@ -362,20 +400,10 @@ impl<X: BlockHash> Store for MemStore<X> {
             self.faults = self.faults.saturating_add(1);
             return Put::Failed;
         }
-        let Ok(text) = Block::from_slice(self.alloc, bytes) else {
-            return Put::Memory;
-        };
-        let Ok(copy) = Block::from_slice(self.alloc, bytes) else {
-            return Put::Memory;
-        };
-        if self.writes.push(Write::Noted(which, copy)).is_err() {
-            return Put::Memory;
+        match self.note(which, bytes) {
+            Ok(()) => Put::Done,
+            Err(_) => Put::Memory,
         }
-        match which {
-            Note::Head => self.head = Some(text),
-            Note::Pins => self.pins = Some(text),
-        }
-        Put::Done
     }
 }
 

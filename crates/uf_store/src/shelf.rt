@@ -1,5 +1,5 @@
 //! Blocks by their CIDs, in memory.
-ghost use Rattle.std.specs.Prelude.{◌≡◌, ◌↔◌, ◌∷◌, ◌++◌, [], IfOk, IsTrue, OnErr, OnOk, Some, true};
+ghost use Rattle.std.specs.Prelude.{◌≡◌, ◌↔◌, ◌∷◌, ◌++◌, [], IfOk, IsTrue, OnErr, OnOk, Some, false, true};
 ghost use Rattle.std.specs.FinMap.{empty, from_entries, get, insert, len, remove};
 ghost use Rattle.std.specs.Option.{option_copied};
 ghost use Rattle.uf_cid.specs.Cid.{cid_cmp};
@@ -43,7 +43,8 @@ impl<X: BlockHash> Shelf<X> {
     /// Whether a block that is here is damaged. It is hashed only where one may be.
     pub(crate) fn is_damaged(&self, cid: &Cid, block: &Block) -> bool
         requires { get (from_entries {R = cid_cmp} self.now.blocks.entries) cid.now ≡ Some block.now }
-        ensures { IsTrue result ↔ IsDamaged X.block32 cid.now block.now }
+        ensures damaged { IsTrue result ↔ IsDamaged X.block32 cid.now block.now }
+        ensures whole { result ≡ false → IsWhole X.block32 cid.now block.now }
     {
         if self.is_whole {
             return false;
@@ -107,24 +108,25 @@ impl<X: BlockHash> Shelf<X> {
 
 /// Keeps a block, and notes that it was saved; says whether it is known to be whole.
 pub(crate) fn keep<X: BlockHash>(
+    alloc: Global,
     blocks: &mut Shelf<X>,
     writes: &mut Vec<Write>,
-    cid: Cid,
-    block: Block,
-    copy: Block,
+    cid: &Cid,
+    bytes: &[u8],
     is_good: bool,
 ) -> Result<(), Memory>
-    requires same { copy ≡ block }
-    requires whole { IsTrue is_good → IsWhole X.block32 cid block }
+    requires { IsTrue is_good → IsWhole X.block32 cid.now bytes.now }
     ensures held { OnOk result (from_entries {R = cid_cmp} blocks.new.blocks.entries
-        ≡ insert (from_entries {R = cid_cmp} blocks.old.blocks.entries) cid block) }
-    ensures written { OnOk result (writes.new.items ≡ writes.old.items ++ Write.Saved cid block ∷ []) }
+        ≡ insert (from_entries {R = cid_cmp} blocks.old.blocks.entries) cid.now bytes.now) }
+    ensures written { OnOk result (writes.new.items ≡ writes.old.items ++ Write.Saved cid.now bytes.now ∷ []) }
     ensures same_held { OnErr result (from_entries {R = cid_cmp} blocks.new.blocks.entries
         ≡ from_entries {R = cid_cmp} blocks.old.blocks.entries) }
     ensures same_written { OnErr result (writes.new.items ≡ writes.old.items) }
 {
-    writes.push(Write::Saved(cid, copy))?;
-    match blocks.insert(cid, block, is_good) {
+    let block = Block::from_slice(alloc, bytes)?;
+    let copy = Block::from_slice(alloc, bytes)?;
+    writes.push(Write::Saved(*cid, copy))?;
+    match blocks.insert(*cid, block, is_good) {
         Ok(()) => Ok(()),
         Err(_) => {
             let _ = writes.pop();
@@ -142,7 +144,8 @@ pub(crate) fn is_whole<X: BlockHash>(cid: &Cid, block: &Block) -> bool
 
 // Whether a block is longer than one may be, or its hash isn't the CID's digest.
 fn is_damaged<X: BlockHash>(cid: &Cid, block: &Block) -> bool
-    ensures { IsTrue result ↔ IsDamaged X.block32 cid.now block.now }
+    ensures damaged { IsTrue result ↔ IsDamaged X.block32 cid.now block.now }
+    ensures whole { result ≡ false → IsWhole X.block32 cid.now block.now }
 {
     block.as_slice().len() > MOST_BYTES || X::block32(block.as_slice()) != cid.digest
 }

@@ -23,7 +23,7 @@ pub enum Load {
 }
 
 /// Whether a block is there.
-#[derive(Clone, Copy, Debug, PartialEq, Eq)]
+#[derive(Clone, Copy, PartialEq, Eq)]
 pub enum Presence {
     /// A block is held under the CID, whole or damaged.
     There,
@@ -36,7 +36,7 @@ pub enum Presence {
 }
 
 /// The answer of a save.
-#[derive(Clone, Copy, Debug, PartialEq, Eq)]
+#[derive(Clone, Copy, PartialEq, Eq)]
 pub enum Save {
     /// The block is held under its CID.
     Done,
@@ -62,7 +62,7 @@ pub enum NoteRead {
 }
 
 /// The notes of a store: `Head` names the tree's root.
-#[derive(Clone, Copy, Debug, PartialEq, Eq)]
+#[derive(Clone, Copy, PartialEq, Eq)]
 pub enum Note {
     /// The tree: its profile and its root.
     Head,
