@@ -1,5 +1,4 @@
 use Rattle.std.proofs.Common.{◌≡◌, ℕ, ◌+◌, ◌<◌, List, [], ◌∷◌, None, length, refl, arith, ap, ◌∙◌, set, subst}
-use Rattle.std.proofs.lemmas.Grind.{common_steps}
 use Rattle.std.proofs.lemmas.Result.{on_ok_weaker}
 use Rattle.uf_cid.specs.Blocks.{Held}
 use Rattle.uf_store.specs.Keeping.{Holds}
@@ -18,7 +17,7 @@ use Rattle.uf_build.proofs.rows.+push.Goals as goal
 pub returns-then-level-len-clause-pushed : goal.returns-then-level-len-clause-pushed
 returns-then-level-len-clause-pushed g t c =
     let hash : List ℕ → List ℕ = g.S.X.BlockHash.block32 in
-    let top : c.args.level ≡ length c.args.rows.now.items = grind (arith, common_steps) in
+    let top : c.args.level ≡ length c.args.rows.now.items = omega arith in
     let none = held-first hash c.args.width c.args.level c.args.part c.args.rows.now.items top in
     record {
       pushed = c.in_ok-push_first.ensures ∙ push-first hash c.args.width c.args.level c.args.part c.args.rows.now.items top;
@@ -29,7 +28,7 @@ returns-then-level-len-clause-pushed g t c =
 pub returns-then-len-width-clause-pushed : goal.returns-then-len-width-clause-pushed
 returns-then-len-width-clause-pushed g t c =
     let hash : List ℕ → List ℕ = g.S.X.BlockHash.block32 in
-    let lt : c.args.level < length c.args.rows.now.items = grind (arith, common_steps) in
+    let lt : c.args.level < length c.args.rows.now.items = omega arith in
     let room = push-room hash c.args.width c.args.level c.args.part c.args.rows.now.items c.index_mut-row.result.now c.push.new.self lt
     c.index_mut-row.ensures.value c.in_ok-push.ensures.ok (omega (arith, c.len-2.ensures)) in
     record {
@@ -40,7 +39,7 @@ returns-then-len-width-clause-pushed g t c =
 
 pub returns-in_err-node-clause-touches : goal.returns-in_err-node-clause-touches
 returns-in_err-node-clause-touches g t c =
-    let lt : c.args.level < length c.args.rows.now.items = grind (arith, common_steps) in
+    let lt : c.args.level < length c.args.rows.now.items = omega arith in
     let one = one-held g.S.X.BlockHash.block32 c.args.width c.args.level c.args.part c.args.rows.now.items c.index_mut-row.result.now c.push.new.self lt
     c.index_mut-row.ensures.value c.in_ok-push.ensures.ok (omega (arith, c.len-2.ensures)) in
     omega (arith, one, c.save_node.ensures.touches)
@@ -48,7 +47,7 @@ returns-in_err-node-clause-touches g t c =
 pub returns-clause-pushed : goal.returns-clause-pushed
 returns-clause-pushed g t c =
     let hash : List ℕ → List ℕ = g.S.X.BlockHash.block32 in
-    let lt : c.args.level < length c.args.rows.now.items = grind (arith, common_steps) in
+    let lt : c.args.level < length c.args.rows.now.items = omega arith in
     let made : c.in_ok-node.node ≡ node_part hash c.push.new.self = c.in_ok-node.ensures.part ∙ ap (node_part hash) c.as_slice.ensures in
     let same = push-node hash c.args.width c.args.level c.args.part c.in_ok-node.node c.args.rows.now.items c.index_mut-row.result.now c.push.new.self c.new.result lt
     c.index_mut-row.ensures.value c.in_ok-push.ensures.ok (omega (arith, c.len-2.ensures)) made c.new.ensures in
@@ -61,7 +60,7 @@ returns-clause-pushed g t c =
 
 pub returns-clause-touches : goal.returns-clause-touches
 returns-clause-touches g t c =
-    let lt : c.args.level < length c.args.rows.now.items = grind (arith, common_steps) in
+    let lt : c.args.level < length c.args.rows.now.items = omega arith in
     let made : c.in_ok-node.node ≡ node_part g.S.X.BlockHash.block32 c.push.new.self = c.in_ok-node.ensures.part ∙ ap (node_part g.S.X.BlockHash.block32) c.as_slice.ensures in
     let same = push-node g.S.X.BlockHash.block32 c.args.width c.args.level c.args.part c.in_ok-node.node c.args.rows.now.items c.index_mut-row.result.now c.push.new.self c.new.result lt
     c.index_mut-row.ensures.value c.in_ok-push.ensures.ok (omega (arith, c.len-2.ensures)) made c.new.ensures in
@@ -86,7 +85,7 @@ returns-in_err-node-clause-no_other g t c =
 pub returns-clause-no_other : goal.returns-clause-no_other
 returns-clause-no_other g t c =
     let hash : List ℕ → List ℕ = g.S.X.BlockHash.block32 in
-    let lt : c.args.level < length c.args.rows.now.items = grind (arith, common_steps) in
+    let lt : c.args.level < length c.args.rows.now.items = omega arith in
     let made : c.in_ok-node.node ≡ node_part hash c.push.new.self = c.in_ok-node.ensures.part ∙ ap (node_part hash) c.as_slice.ensures in
     let same = push-node hash c.args.width c.args.level c.args.part c.in_ok-node.node c.args.rows.now.items c.index_mut-row.result.now c.push.new.self c.new.result lt
     c.index_mut-row.ensures.value c.in_ok-push.ensures.ok (omega (arith, c.len-2.ensures)) made c.new.ensures in
