@@ -9,7 +9,7 @@ use Rattle.uf_store.proofs.Keeping.{Holds-append, Holds-kept}
 use Rattle.uf_build.specs.Rows.{carry, carry_held, close_held_up}
 use Rattle.uf_build.proofs.Calls.{builds-builds}
 use Rattle.uf_build.proofs.Holding.{Holds-nil}
-use Rattle.uf_build.proofs.Up.{close-past, close_held-past, close-next, sizes-closed, short-up, falls, next-level, carry-good}
+use Rattle.uf_build.proofs.Up.{close-past, close_held-past, close-next, sizes-closed, short-at, short-up, falls, next-level, carry-good}
 use Rattle.uf_build.proofs.rows.+close.Goals as goal
 
 pub returns-then-level-len-clause-closed : goal.returns-then-level-len-clause-closed
@@ -125,3 +125,11 @@ returns-clause-no_other g t c =
     let mid = (g.S.Store.seen c.close_row.new.store).told in
     let now = (g.S.Store.seen c.close.new.store).told in
     subst (λ (l : List Held). SavesAmong hash l before now) same.1 (SavesAmong-append hash nodes above before mid now c.close_row.ensures.no_other c.close.ensures.no_other)
+
+pub index_mut-requires : goal.index_mut-requires
+index_mut-requires g t c = omega arith
+
+pub close_row-requires-clause-few : goal.close_row-requires-clause-few
+close_row-requires-clause-few g t c =
+    let lt : c.args.level < length c.args.rows.now.items = omega arith in
+    omega (arith, short-at 1024 c.args.level c.args.rows.now.items c.index_mut.result.now c.requires.short lt c.index_mut.ensures.value, ap length c.replace-row.ensures.value)

@@ -1,4 +1,4 @@
-use Rattle.std.proofs.Common.{◌≡◌, ℕ, ◌+◌, ◌<◌, List, [], ◌∷◌, None, length, refl, arith, ap, ◌∙◌, set, subst}
+use Rattle.std.proofs.Common.{◌≡◌, ℕ, ◌+◌, ◌<◌, List, [], ◌∷◌, None, length, length-append, refl, arith, ap, ◌∙◌, set, subst}
 use Rattle.std.proofs.lemmas.Result.{on_ok_weaker}
 use Rattle.uf_cid.specs.Blocks.{Held}
 use Rattle.uf_store.specs.Keeping.{Holds}
@@ -11,7 +11,7 @@ use Rattle.uf_build.specs.Answers.{OnlyBuilds}
 use Rattle.uf_build.specs.Rows.{held_up}
 use Rattle.uf_build.proofs.Calls.{builds-builds}
 use Rattle.uf_build.proofs.Holding.{Holds-nil, Holds-more}
-use Rattle.uf_build.proofs.Up.{push-first, held-first, push-room, push-node, one-held}
+use Rattle.uf_build.proofs.Up.{held-first, push-first, push-room, push-node, one-held, short-at}
 use Rattle.uf_build.proofs.rows.+push.Goals as goal
 
 pub returns-then-level-len-clause-pushed : goal.returns-then-level-len-clause-pushed
@@ -97,3 +97,15 @@ returns-clause-no_other g t c =
     subst (λ (l : List Held). SavesAmong hash l before.told now.told) same.1
     (SavesAmong-append hash (node_held hash c.push.new.self ∷ []) above before.told mid.told now.told
     (SavesAmong-kept hash (node_held hash c.push.new.self) before mid refl kept) c.push-2.ensures.no_other)
+
+pub index_mut-row-requires : goal.index_mut-row-requires
+index_mut-row-requires g t c = omega arith
+
+pub save_node-requires-clause-some : goal.save_node-requires-clause-some
+save_node-requires-clause-some g t c = omega (arith, ap length c.as_slice.ensures, ap length c.in_ok-push.ensures.ok, length-append c.index_mut-row.result.now (c.args.part ∷ []))
+
+pub save_node-requires-clause-few : goal.save_node-requires-clause-few
+save_node-requires-clause-few g t c =
+    let lt : c.args.level < length c.args.rows.now.items = omega arith in
+    let short = short-at c.args.width c.args.level c.args.rows.now.items c.index_mut-row.result.now c.requires.short lt c.index_mut-row.ensures.value in
+    omega (arith, short, c.requires.width.few, ap length c.as_slice.ensures, ap length c.in_ok-push.ensures.ok, length-append c.index_mut-row.result.now (c.args.part ∷ []))
