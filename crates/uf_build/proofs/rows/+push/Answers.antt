@@ -1,4 +1,5 @@
-use Rattle.std.proofs.Common.{◌≡◌, ℕ, ◌+◌, ◌<◌, List, [], ◌∷◌, None, length, length-append, refl, arith, ap, ◌∙◌, set, subst}
+use Rattle.std.proofs.Common.{◌≡◌, ℕ, ◌+◌, ◌<◌, List, [], ◌∷◌, None, length, refl, arith, ap, ◌∙◌, set, subst}
+use Rattle.std.proofs.lemmas.Grind.{common_steps}
 use Rattle.std.proofs.lemmas.Result.{on_ok_weaker}
 use Rattle.uf_cid.specs.Blocks.{Held}
 use Rattle.uf_store.specs.Keeping.{Holds}
@@ -11,13 +12,13 @@ use Rattle.uf_build.specs.Answers.{OnlyBuilds}
 use Rattle.uf_build.specs.Rows.{held_up}
 use Rattle.uf_build.proofs.Calls.{builds-builds}
 use Rattle.uf_build.proofs.Holding.{Holds-nil, Holds-more}
-use Rattle.uf_build.proofs.Up.{held-first, push-first, push-room, push-node, one-held, short-at}
+use Rattle.uf_build.proofs.Up.{push-first, held-first, push-room, push-node, one-held}
 use Rattle.uf_build.proofs.rows.+push.Goals as goal
 
 pub returns-then-level-len-clause-pushed : goal.returns-then-level-len-clause-pushed
 returns-then-level-len-clause-pushed g t c =
     let hash : List ℕ → List ℕ = g.S.X.BlockHash.block32 in
-    let top : c.args.level ≡ length c.args.rows.now.items = omega arith in
+    let top : c.args.level ≡ length c.args.rows.now.items = grind (arith, common_steps) in
     let none = held-first hash c.args.width c.args.level c.args.part c.args.rows.now.items top in
     record {
       pushed = c.in_ok-push_first.ensures ∙ push-first hash c.args.width c.args.level c.args.part c.args.rows.now.items top;
@@ -28,7 +29,7 @@ returns-then-level-len-clause-pushed g t c =
 pub returns-then-len-width-clause-pushed : goal.returns-then-len-width-clause-pushed
 returns-then-len-width-clause-pushed g t c =
     let hash : List ℕ → List ℕ = g.S.X.BlockHash.block32 in
-    let lt : c.args.level < length c.args.rows.now.items = omega arith in
+    let lt : c.args.level < length c.args.rows.now.items = grind (arith, common_steps) in
     let room = push-room hash c.args.width c.args.level c.args.part c.args.rows.now.items c.index_mut-row.result.now c.push.new.self lt
     c.index_mut-row.ensures.value c.in_ok-push.ensures.ok (omega (arith, c.len-2.ensures)) in
     record {
@@ -39,7 +40,7 @@ returns-then-len-width-clause-pushed g t c =
 
 pub returns-in_err-node-clause-touches : goal.returns-in_err-node-clause-touches
 returns-in_err-node-clause-touches g t c =
-    let lt : c.args.level < length c.args.rows.now.items = omega arith in
+    let lt : c.args.level < length c.args.rows.now.items = grind (arith, common_steps) in
     let one = one-held g.S.X.BlockHash.block32 c.args.width c.args.level c.args.part c.args.rows.now.items c.index_mut-row.result.now c.push.new.self lt
     c.index_mut-row.ensures.value c.in_ok-push.ensures.ok (omega (arith, c.len-2.ensures)) in
     omega (arith, one, c.save_node.ensures.touches)
@@ -47,7 +48,7 @@ returns-in_err-node-clause-touches g t c =
 pub returns-clause-pushed : goal.returns-clause-pushed
 returns-clause-pushed g t c =
     let hash : List ℕ → List ℕ = g.S.X.BlockHash.block32 in
-    let lt : c.args.level < length c.args.rows.now.items = omega arith in
+    let lt : c.args.level < length c.args.rows.now.items = grind (arith, common_steps) in
     let made : c.in_ok-node.node ≡ node_part hash c.push.new.self = c.in_ok-node.ensures.part ∙ ap (node_part hash) c.as_slice.ensures in
     let same = push-node hash c.args.width c.args.level c.args.part c.in_ok-node.node c.args.rows.now.items c.index_mut-row.result.now c.push.new.self c.new.result lt
     c.index_mut-row.ensures.value c.in_ok-push.ensures.ok (omega (arith, c.len-2.ensures)) made c.new.ensures in
@@ -60,7 +61,7 @@ returns-clause-pushed g t c =
 
 pub returns-clause-touches : goal.returns-clause-touches
 returns-clause-touches g t c =
-    let lt : c.args.level < length c.args.rows.now.items = omega arith in
+    let lt : c.args.level < length c.args.rows.now.items = grind (arith, common_steps) in
     let made : c.in_ok-node.node ≡ node_part g.S.X.BlockHash.block32 c.push.new.self = c.in_ok-node.ensures.part ∙ ap (node_part g.S.X.BlockHash.block32) c.as_slice.ensures in
     let same = push-node g.S.X.BlockHash.block32 c.args.width c.args.level c.args.part c.in_ok-node.node c.args.rows.now.items c.index_mut-row.result.now c.push.new.self c.new.result lt
     c.index_mut-row.ensures.value c.in_ok-push.ensures.ok (omega (arith, c.len-2.ensures)) made c.new.ensures in
@@ -85,7 +86,7 @@ returns-in_err-node-clause-no_other g t c =
 pub returns-clause-no_other : goal.returns-clause-no_other
 returns-clause-no_other g t c =
     let hash : List ℕ → List ℕ = g.S.X.BlockHash.block32 in
-    let lt : c.args.level < length c.args.rows.now.items = omega arith in
+    let lt : c.args.level < length c.args.rows.now.items = grind (arith, common_steps) in
     let made : c.in_ok-node.node ≡ node_part hash c.push.new.self = c.in_ok-node.ensures.part ∙ ap (node_part hash) c.as_slice.ensures in
     let same = push-node hash c.args.width c.args.level c.args.part c.in_ok-node.node c.args.rows.now.items c.index_mut-row.result.now c.push.new.self c.new.result lt
     c.index_mut-row.ensures.value c.in_ok-push.ensures.ok (omega (arith, c.len-2.ensures)) made c.new.ensures in
@@ -97,15 +98,3 @@ returns-clause-no_other g t c =
     subst (λ (l : List Held). SavesAmong hash l before.told now.told) same.1
     (SavesAmong-append hash (node_held hash c.push.new.self ∷ []) above before.told mid.told now.told
     (SavesAmong-kept hash (node_held hash c.push.new.self) before mid refl kept) c.push-2.ensures.no_other)
-
-pub index_mut-row-requires : goal.index_mut-row-requires
-index_mut-row-requires g t c = omega arith
-
-pub save_node-requires-clause-some : goal.save_node-requires-clause-some
-save_node-requires-clause-some g t c = omega (arith, ap length c.as_slice.ensures, ap length c.in_ok-push.ensures.ok, length-append c.index_mut-row.result.now (c.args.part ∷ []))
-
-pub save_node-requires-clause-few : goal.save_node-requires-clause-few
-save_node-requires-clause-few g t c =
-    let lt : c.args.level < length c.args.rows.now.items = omega arith in
-    let short = short-at c.args.width c.args.level c.args.rows.now.items c.index_mut-row.result.now c.requires.short lt c.index_mut-row.ensures.value in
-    omega (arith, short, c.requires.width.few, ap length c.as_slice.ensures, ap length c.in_ok-push.ensures.ok, length-append c.index_mut-row.result.now (c.args.part ∷ []))
