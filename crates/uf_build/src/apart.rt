@@ -1,6 +1,7 @@
 //! Sources that are read as files, with touches that are counted apart from the caller's.
-ghost use Rattle.std.specs.Prelude.{◌≡◌, ◌<◌, IfSome, IsTrue, None};
+ghost use Rattle.std.specs.Prelude.{◌≡◌, ◌<◌, ℕ, List, IfSome, IsTrue, None};
 ghost use Rattle.uf_edge.specs.Counts.{Counts};
+ghost use Rattle.uf_edge.specs.Streams.{Told};
 ghost use Rattle.uf_store.specs.Faults.{NoneIsBad, Shown};
 ghost use Rattle.uf_store.specs.Keeping.{KeepsGood};
 ghost use Rattle.uf_store.specs.Writing.{SavesOnly};
@@ -8,6 +9,7 @@ ghost use Rattle.uf_store.specs.declared.store.StoreFault.TheVariants as stops;
 ghost use Rattle.uf_build.specs.Faults.{fails_reading, intake_fault};
 ghost use Rattle.uf_build.specs.Intake.{IsFileOf, SavesOfFile};
 ghost use Rattle.uf_tree.specs.Profiles.{is_profile};
+ghost use Rattle.uf_tree.specs.declared.profile.Profile.{Profile as TheProfile};
 
 use crate::{IntakeFault, file_of};
 use std::alloc::Global;
@@ -73,7 +75,17 @@ pub fn hash_of<X: BlockHash, I: Source>(
     ensures wants { IfSome (intake_fault result) (λ fault. fault ≡ stops.Memory) }
 {
     let mut store = Discard::<X>::new();
-    match file_apart(alloc, profile, &mut store, input) {
+    without_store_faults(file_apart(alloc, profile, &mut store, input))
+}
+
+// The same answer, with out of memory in the place of each other fault of the store.
+fn without_store_faults(answer: Result<Entry, IntakeFault>) -> Result<Entry, IntakeFault>
+    ensures file { (hash : List ℕ → List ℕ) (p : TheProfile) (left left_now : Told)
+        → IsFileOf hash p None answer left left_now → IsFileOf hash p None result left left_now }
+    ensures reading { fails_reading result ≡ fails_reading answer }
+    ensures wants { IfSome (intake_fault result) (λ fault. fault ≡ stops.Memory) }
+{
+    match answer {
         Ok(entry) => Ok(entry),
         Err(IntakeFault::Read) => Err(IntakeFault::Read),
         Err(IntakeFault::FileTooLong) => Err(IntakeFault::FileTooLong),

@@ -11,12 +11,12 @@ ghost use Rattle.uf_store.specs.Among.{SavesAmong};
 ghost use Rattle.uf_tree.specs.FilePlan.{node_part, node_held, root_node, root_part, root_held, top_part, top_held};
 ghost use Rattle.uf_build.specs.Answers.{OnlyBuilds};
 ghost use Rattle.uf_tree.specs.Metas.{is_meta};
-ghost use Rattle.uf_tree.specs.Nodes.{capped, link_of};
+ghost use Rattle.uf_tree.specs.Nodes.{capped, file_block, link_of};
 ghost use Rattle.uf_tree.specs.Validity.{IsPartLink};
 
 use std::alloc::Global;
 use std::sync::ledger::Ledger;
-use uf_cid::{Cid, Codec, Memory, Seq, Text, cids_are_whole};
+use uf_cid::{Block, Cid, Codec, Memory, Seq, Text, cids_are_whole};
 use uf_dagpb::Link;
 use uf_store::{Steps, Store, StoreFault, save_under};
 use uf_tree::{Entry, FileNode, Meta, Part, file_node};
@@ -74,8 +74,7 @@ pub fn save_root<S: Store, L: Ledger>(
     ensures touch { OnOk result (touches.new ≡ touches.old + 1) }
     ensures rises { touches.old ≤ touches.new }
 {
-    let node = node_of(alloc, parts, meta)?;
-    let block = file_node(alloc, &node)?;
+    let block = node_block(alloc, parts, meta)?;
     let bytes = block.as_slice();
     let cid = Cid::of::<S::X>(Codec::DagPb, bytes);
     save_under(alloc, store, &cid, bytes, touches)?;
@@ -116,6 +115,19 @@ pub fn save_top<S: Store, L: Ledger>(
         return Ok(parts[0]);
     }
     save_root(alloc, store, parts, meta, touches)
+}
+
+// The block of the node over a group.
+fn node_block(alloc: Global, parts: &[Part], meta: &Meta) -> Result<Block, Memory>
+    requires some { 1 ≤ length parts.now }
+    requires few { length parts.now ≤ 1024 }
+    requires size { sum_by (λ m. m.size) parts.now < 2 ^ 63 }
+    requires good { IsTrue (is_meta meta.now) }
+    ensures block { IfOk result (λ block. block ≡ file_block (root_node meta.now parts.now)) }
+    ensures small { IfOk result (λ block. length block ≤ 131072) }
+{
+    let node = node_of(alloc, parts, meta)?;
+    file_node(alloc, &node)
 }
 
 // The links of a group's node, and the sizes.

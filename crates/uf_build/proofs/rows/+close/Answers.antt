@@ -1,5 +1,4 @@
 use Rattle.std.proofs.Common.{◌≡◌, ℕ, ◌+◌, ◌<◌, List, [], ◌∷◌, ◌++◌, length, refl, arith, rules, ap, ◌∙◌, set, subst, nat_eq, length-append}
-use Rattle.std.proofs.lemmas.Grind.{common_steps}
 use Rattle.std.proofs.lemmas.Result.{IfOk-weaker}
 use Rattle.uf_cid.specs.Blocks.{Held}
 use Rattle.uf_store.specs.Keeping.{Holds}
@@ -10,13 +9,13 @@ use Rattle.uf_store.proofs.Keeping.{Holds-append, Holds-kept}
 use Rattle.uf_build.specs.Rows.{carry, carry_held, close_held_up}
 use Rattle.uf_build.proofs.Calls.{builds-builds}
 use Rattle.uf_build.proofs.Holding.{Holds-nil}
-use Rattle.uf_build.proofs.Up.{close-past, close_held-past, close-next, sizes-closed, short-up, falls, next-level, carry-good}
+use Rattle.uf_build.proofs.Up.{close-past, close_held-past, close-next, sizes-closed, short-at, short-up, falls, next-level, carry-good}
 use Rattle.uf_build.proofs.rows.+close.Goals as goal
 
 pub returns-then-level-len-clause-closed : goal.returns-then-level-len-clause-closed
 returns-then-level-len-clause-closed g t c =
     let hash : List ℕ → List ℕ = g.S.X.BlockHash.block32 in
-    let top : c.args.level ≡ length c.args.rows.now.items = grind (arith, common_steps) in
+    let top : c.args.level ≡ length c.args.rows.now.items = omega arith in
     let none = close_held-past hash c.args.meta.now c.args.level c.args.carried c.args.rows.now.items top in
     record {
       stands = close-past hash c.args.meta.now c.args.level _ c.args.rows.now.items top;
@@ -26,8 +25,8 @@ returns-then-level-len-clause-closed g t c =
 
 pub returns-in_err-up-clause-touches : goal.returns-in_err-up-clause-touches
 returns-in_err-up-clause-touches g t c =
-    let lt : c.args.level < length c.args.rows.now.items = grind (arith, common_steps) in
-    let count : c.len-2.result ≡ length c.args.rows.now.items = grind (arith, common_steps) in
+    let lt : c.args.level < length c.args.rows.now.items = omega arith in
+    let count : c.len-2.result ≡ length c.args.rows.now.items = omega arith in
     let hash : List ℕ → List ℕ = g.S.X.BlockHash.block32 in
     let same = close-next hash c.args.meta.now c.args.level c.len-2.result c.args.carried _ c.args.rows.now.items c.index_mut.result.now c.replace-row.result [] lt
     c.index_mut.ensures.value c.replace-row.ensures.value count refl refl in
@@ -35,7 +34,7 @@ returns-in_err-up-clause-touches g t c =
 
 pub close-requires : goal.close-requires
 close-requires g t c κs within =
-    let lt : c.args.level < length c.args.rows.now.items = grind (arith, common_steps) in
+    let lt : c.args.level < length c.args.rows.now.items = omega arith in
     let hash : List ℕ → List ℕ = g.S.X.BlockHash.block32 in
     let none : c.replace-row.new.dest ≡ [] = c.replace-row.ensures.after ∙ c.new.ensures in
     let size = sizes-closed hash c.args.meta.now c.args.level (nat_eq (c.args.level + 1) c.len-2.result) c.args.carried c.in_ok-up.up c.args.rows.now.items
@@ -62,8 +61,8 @@ close-requires g t c κs within =
 
 pub returns-clause-closed : goal.returns-clause-closed
 returns-clause-closed g t c =
-    let lt : c.args.level < length c.args.rows.now.items = grind (arith, common_steps) in
-    let count : c.len-2.result ≡ length c.args.rows.now.items = grind (arith, common_steps) in
+    let lt : c.args.level < length c.args.rows.now.items = omega arith in
+    let count : c.len-2.result ≡ length c.args.rows.now.items = omega arith in
     let hash : List ℕ → List ℕ = g.S.X.BlockHash.block32 in
     let none : c.replace-row.new.dest ≡ [] = c.replace-row.ensures.after ∙ c.new.ensures in
     let is_top = nat_eq (c.args.level + 1) c.len-2.result in
@@ -79,8 +78,8 @@ returns-clause-closed g t c =
 
 pub returns-clause-touches : goal.returns-clause-touches
 returns-clause-touches g t c =
-    let lt : c.args.level < length c.args.rows.now.items = grind (arith, common_steps) in
-    let count : c.len-2.result ≡ length c.args.rows.now.items = grind (arith, common_steps) in
+    let lt : c.args.level < length c.args.rows.now.items = omega arith in
+    let count : c.len-2.result ≡ length c.args.rows.now.items = omega arith in
     let hash : List ℕ → List ℕ = g.S.X.BlockHash.block32 in
     let none : c.replace-row.new.dest ≡ [] = c.replace-row.ensures.after ∙ c.new.ensures in
     let same = close-next hash c.args.meta.now c.args.level c.len-2.result c.args.carried c.in_ok-up.up c.args.rows.now.items c.index_mut.result.now c.replace-row.result
@@ -98,8 +97,8 @@ returns-clause-builds g t c = builds-builds c.in_ok-up.ensures.builds c.close.en
 
 pub returns-in_err-up-clause-no_other : goal.returns-in_err-up-clause-no_other
 returns-in_err-up-clause-no_other g t c =
-    let lt : c.args.level < length c.args.rows.now.items = grind (arith, common_steps) in
-    let count : c.len-2.result ≡ length c.args.rows.now.items = grind (arith, common_steps) in
+    let lt : c.args.level < length c.args.rows.now.items = omega arith in
+    let count : c.len-2.result ≡ length c.args.rows.now.items = omega arith in
     let hash : List ℕ → List ℕ = g.S.X.BlockHash.block32 in
     let m = c.args.meta.now in
     let row : List Part = c.replace-row.result ++ c.args.carried ∷ [] in
@@ -113,8 +112,8 @@ returns-in_err-up-clause-no_other g t c =
 
 pub returns-clause-no_other : goal.returns-clause-no_other
 returns-clause-no_other g t c =
-    let lt : c.args.level < length c.args.rows.now.items = grind (arith, common_steps) in
-    let count : c.len-2.result ≡ length c.args.rows.now.items = grind (arith, common_steps) in
+    let lt : c.args.level < length c.args.rows.now.items = omega arith in
+    let count : c.len-2.result ≡ length c.args.rows.now.items = omega arith in
     let hash : List ℕ → List ℕ = g.S.X.BlockHash.block32 in
     let m = c.args.meta.now in
     let none : c.replace-row.new.dest ≡ [] = c.replace-row.ensures.after ∙ c.new.ensures in
@@ -126,3 +125,11 @@ returns-clause-no_other g t c =
     let mid = (g.S.Store.seen c.close_row.new.store).told in
     let now = (g.S.Store.seen c.close.new.store).told in
     subst (λ (l : List Held). SavesAmong hash l before now) same.1 (SavesAmong-append hash nodes above before mid now c.close_row.ensures.no_other c.close.ensures.no_other)
+
+pub index_mut-requires : goal.index_mut-requires
+index_mut-requires g t c = omega arith
+
+pub close_row-requires-clause-few : goal.close_row-requires-clause-few
+close_row-requires-clause-few g t c =
+    let lt : c.args.level < length c.args.rows.now.items = omega arith in
+    omega (arith, short-at 1024 c.args.level c.args.rows.now.items c.index_mut.result.now c.requires.short lt c.index_mut.ensures.value, ap length c.replace-row.ensures.value)

@@ -1,4 +1,5 @@
 use Rattle.std.proofs.Common.{◌≡◌, ℕ, ◌+◌, ◌-◌, ◌*◌, ◌≤◌, List, ◌∷◌, ◌++◌, length, take, drop, arith, ap, sym, ◌∙◌, subst}
+use Rattle.std.proofs.Math.Nat.{mul-le-mul_right}
 use Rattle.std.proofs.lemmas.List.{take-append-drop}
 use Rattle.std.proofs.lemmas.Result.{err_from_is_err_and}
 use Rattle.uf_tree.specs.declared.profile.Profile.{Profile}
@@ -93,3 +94,30 @@ returns-in_err-save_leaf-clause-stops g c =
           (ap (λ (l : List ℕ). l ++ drop ((i + 1) * p.chunk) bytes) (sym (more bytes i p.chunk)) ∙ take-append-drop ((i + 1) * p.chunk) bytes)
           (for-front hash p (take (i * p.chunk) bytes ++ piece) (drop ((i + 1) * p.chunk) bytes) c.args.self.now.begun.items (groups_in c.args.self.now.opened) before now among);
     })
+
+pub overflow_mul-piece : goal.overflow_mul-piece
+overflow_mul-piece g c =
+    let low : c.loop-i.i + 1 ≤ c.args.count = omega arith in
+    omega (arith, mul-le-mul_right c.args.self.now.profile.chunk low, c.requires.count, c.requires.can.most)
+
+pub overflow_mul-piece-in-loop-i : goal.overflow_mul-piece-in-loop-i
+overflow_mul-piece-in-loop-i g c =
+    let low : c.loop-i.i + 1 ≤ c.args.count = omega arith in
+    omega (arith, mul-le-mul_right c.args.self.now.profile.chunk low, c.requires.count, c.requires.can.most)
+
+pub overflow_add-piece : goal.overflow_add-piece
+overflow_add-piece g c =
+    let low : c.loop-i.i + 1 ≤ c.args.count = omega arith in
+    omega (arith, mul-le-mul_right c.args.self.now.profile.chunk low, c.requires.count, c.requires.can.most)
+
+pub slice_bounds-piece-end : goal.slice_bounds-piece-end
+slice_bounds-piece-end g c =
+    let low : c.loop-i.i + 1 ≤ c.args.count = omega arith in
+    omega (arith, mul-le-mul_right c.args.self.now.profile.chunk low, c.requires.count)
+
+pub save_leaf-requires-clause-size : goal.save_leaf-requires-clause-size
+save_leaf-requires-clause-size g c = omega (
+  arith,
+  piece-size c.args.bytes.now c.loop-i.i c.args.self.now.profile.chunk c.args.count (omega arith) c.requires.count,
+  ap (λ (p : Profile). p.chunk) c.loop-i.invariant.profile,
+)

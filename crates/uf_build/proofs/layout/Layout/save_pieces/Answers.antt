@@ -1,4 +1,5 @@
-use Rattle.std.proofs.Common.{◌≡◌, ℕ, ◌<◌, List, ◌++◌, length, arith, ap, sym, ◌∙◌, subst}
+use Rattle.std.proofs.Common.{◌≡◌, ℕ, ◌*◌, ◌<◌, ◌≤◌, List, ◌++◌, length, length-append, inl, inr, arith, ap, sym, ◌∙◌, subst}
+use Rattle.std.proofs.Math.Nat.{mul-le-mul_right}
 use Rattle.std.proofs.lemmas.List.{append-nil}
 use Rattle.std.proofs.lemmas.Result.{err_from_is_err_and}
 use Rattle.uf_tree.specs.declared.profile.Profile.{Profile}
@@ -86,3 +87,28 @@ returns-in_err-save_group-clause-stops g c =
           (sym (goes-on _ _ _ _ _ _ took.1 c.split_at.ensures.front c.split_at.ensures.back))
           (for-front hash p (took.0 ++ group) behind c.args.self.now.begun.items (groups_in c.args.self.now.opened) before now among);
     })
+
+pub split_at-requires : goal.split_at-requires
+split_at-requires g c =
+    let few : c.min-few.result ≤ c.loop-left.left = omega arith in
+    omega (arith, mul-le-mul_right c.args.self.now.profile.chunk few, c.loop-left.invariant.left)
+
+pub save_group-requires-clause-begun : goal.save_group-requires-clause-begun
+save_group-requires-clause-begun g c =
+    let took = c.loop-left.invariant.took in
+    let some : 1 ≤ c.loop-left.left = omega arith in
+    elim c.requires.begun [
+      | inl zero ↦ absurd (omega (
+        arith,
+        mul-le-mul_right c.args.self.now.profile.chunk some,
+        (kept c.args.self.now.profile c.requires.can.profile).some,
+        zero,
+        ap length took.1,
+        length-append took.0 c.loop-left.rest.now,
+        c.loop-left.invariant.left,
+      ))
+      | inr none ↦ c.loop-left.invariant.begun ∙ none
+    ]
+
+pub save_group-requires-clause-count : goal.save_group-requires-clause-count
+save_group-requires-clause-count g c = c.split_at.ensures.front_len ∙ ap (λ (p : Profile). c.min-few.result * p.chunk) (sym c.loop-left.invariant.profile)
