@@ -95,11 +95,7 @@ impl<X: BlockHash> Ahead<X> {
         }
         let length = folder.length_of_block(first);
         let pieces = gather(folder, cids, length, &mut self.bytes);
-        self.digests = digests_in::<X>(
-            &mut self.bytes,
-            pieces.size,
-            &pieces.lengths[..pieces.count],
-        );
+        self.digests = digests_in::<X>(&mut self.bytes, &pieces);
         self.pieces = pieces;
     }
 
@@ -139,17 +135,15 @@ impl<X: BlockHash> Ahead<X> {
     }
 }
 
-// The digests of the blocks at the heads of at most eight pieces.
-fn digests_in<X: BlockHash>(bytes: &mut [u8], size: usize, lengths: &[usize]) -> [[u8; 32]; 8]
-    requires pieces { length bytes.old ≡ length lengths.now * size }
-    requires few { length lengths.now ≤ 8 }
-    requires room { (k : ℕ) → k < length lengths.now → slice_index lengths.now k + 72 ≤ size }
-    ensures digests { (k : ℕ) → k < length lengths.now
-        → slice_index_or result k [] ≡ X.block32 (block_in bytes.new size lengths.now k) }
-    ensures len { length result ≡ 8 }
+// The digests of the blocks at the heads of these pieces.
+fn digests_in<X: BlockHash>(bytes: &mut [u8], pieces: &Pieces) -> [[u8; 32]; 8]
+    requires pieces { length bytes.old ≡ pieces.now.count * pieces.now.size }
+    ensures digests { (k : ℕ) → k < pieces.now.count
+        → slice_index_or result k [] ≡ X.block32 (block_in bytes.new pieces.now.size pieces.now.lengths k) }
 {
     let mut digests = [[0u8; 32]; 8];
-    X::block32_apart(bytes, size, lengths, &mut digests[..lengths.len()]);
+    let lengths = &pieces.lengths[..pieces.count];
+    X::block32_apart(bytes, pieces.size, lengths, &mut digests[..pieces.count]);
     digests
 }
 

@@ -1,14 +1,14 @@
 //! Whole files and folders of the machine.
 ghost use Rattle.std.specs.Prelude.{◌≡◌, ◌≤◌, ◌+◌, length, vec_len, IfOk, OnOk};
 
-use std::alloc::{AllocError, AllocFailed};
-use std::fs::{Files, OpenFile, OpenOptions};
+use std::alloc::{AllocError, AllocFailed, Global};
+use std::fs::{Files, OpenFile, OpenOptions, ReadDir};
 use std::io::{ErrorKind, Read, Write};
 use std::{fs, io};
 use uf_cid::Memory;
 
 /// Why the machine did not do what it was asked.
-#[derive(Clone, Copy, Debug, PartialEq, Eq)]
+#[derive(Clone, Copy, PartialEq, Eq)]
 pub enum Trouble {
     Failed,
     Memory,
@@ -42,14 +42,31 @@ impl<T: Drop> From<AllocFailed<T>> for Trouble {
     }
 }
 
+/// What an act on something gave; None where nothing is there.
+pub fn if_there<T: Drop>(done: io::Result<T>) -> Result<Option<T>, Trouble> {
+    match done {
+        Ok(given) => Ok(Some(given)),
+        Err(error) if error.kind() == ErrorKind::NotFound => Ok(None),
+        Err(error) => Err(Trouble::from(error)),
+    }
+}
+
+/// What is in a folder, in no order.
+pub fn entries_of<'a, R: Files>(
+    files: &'a R,
+    alloc: Global,
+    folder: &str,
+) -> io::Result<ReadDir<(&'a R, Global)>> {
+    fs::read_dir(&(files, alloc), folder)
+}
+
 /// How long the file at a path is; None where nothing is there. Anything there but a file is trouble, and isn't
 /// opened.
 pub fn length_of<R: Files>(files: &R, path: &str) -> Result<Option<u64>, Trouble> {
-    match fs::metadata(files, path) {
-        Ok(found) if found.is_file() => Ok(Some(found.len())),
-        Ok(_) => Err(Trouble::Failed),
-        Err(error) if error.kind() == ErrorKind::NotFound => Ok(None),
-        Err(error) => Err(Trouble::from(error)),
+    match if_there(fs::metadata(files, path))? {
+        Some(found) if found.is_file() => Ok(Some(found.len())),
+        Some(_) => Err(Trouble::Failed),
+        None => Ok(None),
     }
 }
 
@@ -166,18 +183,13 @@ pub fn remove_file<R: Files>(files: &R, path: &str) -> Result<bool, Trouble> {
     if !is_file(files, path)? {
         return Ok(false);
     }
-    match fs::remove_file(files, path) {
-        Ok(()) => Ok(true),
-        Err(error) if error.kind() == ErrorKind::NotFound => Ok(false),
-        Err(error) => Err(Trouble::from(error)),
-    }
+    Ok(if_there(fs::remove_file(files, path))?.is_some())
 }
 
 // Whether there is a file at a path.
 fn is_file<R: Files>(files: &R, path: &str) -> Result<bool, Trouble> {
-    match fs::metadata(files, path) {
-        Ok(found) => Ok(found.is_file()),
-        Err(error) if error.kind() == ErrorKind::NotFound => Ok(false),
-        Err(error) => Err(Trouble::from(error)),
+    match if_there(fs::metadata(files, path))? {
+        Some(found) => Ok(found.is_file()),
+        None => Ok(false),
     }
 }

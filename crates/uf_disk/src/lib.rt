@@ -3,8 +3,6 @@
 #![tactic(auto)]
 
 mod ahead;
-#[cfg(test)]
-mod failing;
 mod files;
 mod folder;
 mod host;
@@ -12,8 +10,6 @@ mod place;
 mod store;
 mod streams;
 mod sweeping;
-#[cfg(test)]
-mod tests;
 
 pub use host::DiskHost;
 pub use store::DiskStore;

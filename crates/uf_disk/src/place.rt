@@ -4,7 +4,7 @@ use std::str;
 use uf_cid::{Cid, Codec};
 
 /// A block's file stands among those of late, or in the folder of the last two characters of its CID's text.
-#[derive(Clone, Copy, Debug, PartialEq, Eq)]
+#[derive(Clone, Copy, PartialEq, Eq)]
 pub enum BlockPlace {
     Late,
     Filed,

@@ -87,16 +87,17 @@ impl<X: BlockHash, R: Files + RandomSource> DiskStore<X, R> {
             Saves X.block32 cid.now bytes.now answer (disk_seen self.old) (disk_seen self.new)) }
         ensures err { OnErr result (disk_seen self.new ≡ disk_seen self.old) }
     {
-        match self.folder.read_block(cid, &mut self.read)? {
-            Held::Nothing => self.folder.put_block(cid, bytes)?,
-            Held::Bytes if self.read.as_slice() == bytes => self.folder.keep_block(cid)?,
+        let kept = match self.folder.read_block(cid, &mut self.read)? {
+            Held::Nothing => self.folder.put_block(cid, bytes),
+            Held::Bytes if self.read.as_slice() == bytes => self.folder.keep_block(cid),
             Held::Bytes if X::block32(&self.read) == cid.digest => {
                 mem::swap(&mut self.lent, &mut self.read);
                 self.clashes = self.clashes.saturating_add(1);
                 return Ok(Save::Clash);
             }
-            _ => self.folder.replace_block(cid, bytes)?,
-        }
+            _ => self.folder.replace_block(cid, bytes),
+        };
+        kept?;
         Ok(Save::Done)
     }
 

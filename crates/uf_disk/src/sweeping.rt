@@ -1,12 +1,10 @@
 //! What a sweep takes away.
-use crate::files::{Trouble, remove_file};
+use crate::files::{Trouble, entries_of, if_there, remove_file};
 use crate::folder::{BLOCKS, Folder};
 use crate::place::{BlockPath, BlockPlace, cid_named, folder_of};
-use std::alloc::Global;
+use std::alloc::{Allocator, Global};
 use std::collections::BTreeSet;
-use std::fs;
-use std::fs::Files;
-use std::io::ErrorKind;
+use std::fs::{Files, ReadDir};
 use std::random::RandomSource;
 use uf_cid::{Cid, Cids};
 
@@ -77,19 +75,24 @@ impl<R: Files + RandomSource> Folder<R> {
 
     /// Puts the CIDs of the blocks that have their files in a folder after others.
     pub fn put_names(&self, folder: &str, cids: &mut Cids) -> Result<(), Trouble> {
-        let entries = match fs::read_dir(&(&self.files, self.alloc), folder) {
-            Ok(entries) => entries,
-            Err(error) if error.kind() == ErrorKind::NotFound => return Ok(()),
-            Err(error) => return Err(Trouble::from(error)),
-        };
-        for entry in entries {
-            let entry = entry?;
-            if let Some(cid) = cid_named(entry.file_name()) {
-                cids.push(cid)?;
-            }
+        match if_there(entries_of(&self.files, self.alloc, folder))? {
+            Some(entries) => put_cids(entries, cids),
+            None => Ok(()),
         }
-        Ok(())
     }
+}
+
+// Puts the CIDs of the blocks whose files these are after others.
+fn put_cids<F: Files + Clone + Drop, A: Allocator + Clone>(
+    entries: ReadDir<F, A>,
+    cids: &mut Cids,
+) -> Result<(), Trouble> {
+    for entry in entries {
+        if let Some(cid) = cid_named(entry?.file_name()) {
+            cids.push(cid)?;
+        }
+    }
+    Ok(())
 }
 
 // CIDs as a set.

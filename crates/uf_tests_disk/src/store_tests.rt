@@ -1,19 +1,18 @@
-//! Rows of a store and of a host, in the folder that the test runs in.
+//! Rows of a store, in the folder that the test runs in.
 ghost use Rattle.std.specs.Prelude.{◌≡◌, ◌<◌};
 ghost use Rattle.uf_cid.specs.Cid.{cid_of};
 ghost use Rattle.uf_cid.specs.declared.cid.Codec.TheVariants.{Raw};
 
 use crate::failing::FailingFiles;
-use crate::place::{BlockPath, BlockPlace};
-use crate::{DiskHost, DiskStore};
 use std::alloc::Global;
 use std::fs::{Files, OpenFile};
 use std::marker::Brand;
 use std::random::RandomSource;
 use std::sync::ledger::{Blank, Ledger};
-use std::{fs, io};
+use std::{fs, io, str};
 use uf_cid::{BlockHash, Cid, Cids, Codec, Sha256Hash, Sum8Hash};
-use uf_edge::{Fetched, Host, Kind, Listing, Put};
+use uf_disk::DiskStore;
+use uf_edge::Put;
 use uf_store::{Load, Note, NoteRead, Presence, Save, Steps, Store, Sweep, Swept};
 
 // What is done with a store or with its files, and what is to come of it.
@@ -53,12 +52,14 @@ enum StoreCall {
 }
 
 // What a note answered: its text, that it is absent, or neither.
-#[derive(Clone, Copy, Debug, PartialEq, Eq)]
+#[derive(Clone, Copy, PartialEq, Eq)]
 enum NoteState {
     Whole,
     Absent,
     Unread,
 }
+
+const BLOCKS: &str = ".unixfs/blocks";
 
 const HALF_WRITTEN: &str = ".unixfs/new-0";
 
@@ -217,6 +218,11 @@ const REFUSES: [StoreCall; 6] = [
     StoreCall::Opens,
 ];
 
+// The tables of blocks with hashes of SHA-256, of which each begins with what the one before it left.
+const TABLES: [&[StoreCall]; 8] = [
+    &KEEPS, &MENDS, &CLEARS, &FORESEES, &UNLIKE, &SWEEPS, &FILED, &REFUSES,
+];
+
 // Three writes, of which one fails where a call of the machine does.
 const WRITES: [StoreCall; 3] = [
     StoreCall::Saves(b"a", Save::Done),
@@ -265,42 +271,55 @@ fn text_of(note: NoteRead) -> NoteState {
     }
 }
 
-// The text of a path.
-fn text_at(path: &BlockPath) -> io::Result<&str> {
-    match path.text() {
+// The text of bytes of a CID's text.
+fn ascii(bytes: &[u8]) -> io::Result<&str> {
+    match str::from_utf8(bytes) {
         Ok(text) => Ok(text),
         Err(_) => Err(io::Error::from(io::ErrorKind::InvalidFilename)),
     }
 }
 
+// The path of the file of a block among those of late.
+fn late_path(alloc: Global, block: &[u8]) -> io::Result<String> {
+    let name = cid_of_raw::<Sha256Hash>(block).text();
+    Ok(format!(in alloc; "{}/{}", BLOCKS, ascii(&name)?)?)
+}
+
+// The path of the folder of the last two characters of a block's CID.
+fn own_folder(alloc: Global, block: &[u8]) -> io::Result<String> {
+    let name = cid_of_raw::<Sha256Hash>(block).text();
+    Ok(format!(in alloc; "{}/{}", BLOCKS, ascii(&name[57..])?)?)
+}
+
+// The path of the file of a block in that folder.
+fn filed_path(alloc: Global, block: &[u8]) -> io::Result<String> {
+    let name = cid_of_raw::<Sha256Hash>(block).text();
+    let folder = own_folder(alloc, block)?;
+    Ok(format!(in alloc; "{}/{}", folder, ascii(&name)?)?)
+}
+
 // The path of the file of a block, which is in its own folder where one is there.
-fn path_of<R: Files>(files: &R, block: &[u8]) -> io::Result<BlockPath> {
-    let cid = cid_of_raw::<Sha256Hash>(block);
-    let filed = BlockPath::new(&cid, BlockPlace::Filed);
-    if let Ok(true) = fs::exists(files, text_at(&filed)?) {
+fn path_of<R: Files>(alloc: Global, files: &R, block: &[u8]) -> io::Result<String> {
+    let filed = filed_path(alloc, block)?;
+    if let Ok(true) = fs::exists(files, filed.as_str()) {
         return Ok(filed);
     }
-    Ok(BlockPath::new(&cid, BlockPlace::Late))
+    late_path(alloc, block)
 }
 
 // Moves the file of the block `a` into its own folder.
-fn files_a<R: Files>(files: &R) -> io::Result<()> {
-    let late = BlockPath::new(&cid_of_raw::<Sha256Hash>(b"a"), BlockPlace::Late);
-    let filed = BlockPath::new(&cid_of_raw::<Sha256Hash>(b"a"), BlockPlace::Filed);
-    match filed.folder() {
-        Ok(folder) => fs::create_dir_all(files, folder)?,
-        Err(_) => return Err(io::Error::from(io::ErrorKind::InvalidFilename)),
-    }
-    if fs::exists(files, text_at(&late)?)? {
-        fs::rename(files, text_at(&late)?, text_at(&filed)?)?;
+fn files_a<R: Files>(alloc: Global, files: &R) -> io::Result<()> {
+    let folder = own_folder(alloc, b"a")?;
+    fs::create_dir_all(files, folder.as_str())?;
+    let late = late_path(alloc, b"a")?;
+    if fs::exists(files, late.as_str())? {
+        fs::rename(files, late.as_str(), filed_path(alloc, b"a")?.as_str())?;
     }
     Ok(())
 }
 
-// Does what is done with the files.
-fn sets<R: Files>(alloc: Global, files: &R, step: &StoreCall) -> io::Result<bool> {
-    let path = path_of(files, b"a")?;
-    let path = text_at(&path)?;
+// Does what is done with the file of the block `a`, which is at this path.
+fn sets_a<R: Files>(files: &R, path: &str, step: &StoreCall) -> io::Result<bool> {
     match step {
         StoreCall::Spoils => fs::write(files, path, "b")?,
         StoreCall::Lengthens => fs::create(files, path)?.set_len(2097153)?,
@@ -309,20 +328,38 @@ fn sets<R: Files>(alloc: Global, files: &R, step: &StoreCall) -> io::Result<bool
             fs::create_dir(files, path)?;
         }
         StoreCall::Frees => fs::remove_dir(files, path)?,
-        StoreCall::Damages(block, bytes) => {
-            fs::write(files, text_at(&path_of(files, *block)?)?, *bytes)?;
-        }
-        StoreCall::Files => files_a(files)?,
+        _ => return Ok(false),
+    }
+    Ok(true)
+}
+
+// Gives the file of a block these bytes.
+fn damages<R: Files>(alloc: Global, files: &R, block: &[u8], bytes: &[u8]) -> io::Result<()> {
+    let path = path_of(alloc, files, block)?;
+    fs::write(files, path.as_str(), bytes)
+}
+
+// Puts a file in the place of the store's folder.
+fn closes<R: Files>(alloc: Global, files: &R) -> io::Result<()> {
+    fs::remove_dir_all(&(files, alloc), ".unixfs")?;
+    fs::write(files, ".unixfs", "text")
+}
+
+// Does what is done with the files.
+fn sets<R: Files>(alloc: Global, files: &R, step: &StoreCall) -> io::Result<bool> {
+    match step {
+        StoreCall::Damages(block, bytes) => damages(alloc, files, *block, *bytes)?,
+        StoreCall::Files => files_a(alloc, files)?,
         StoreCall::Adds => fs::write(files, BESIDE, "text")?,
         StoreCall::IsThere => return fs::exists(files, BESIDE),
         StoreCall::Leaves => fs::write(files, HALF_WRITTEN, "half")?,
         StoreCall::IsClean => return Ok(!fs::exists(files, HALF_WRITTEN)?),
-        StoreCall::Closes => {
-            fs::remove_dir_all(&(files, alloc), ".unixfs")?;
-            fs::write(files, ".unixfs", "text")?;
-        }
+        StoreCall::Closes => closes(alloc, files)?,
         StoreCall::Opens => fs::remove_file(files, ".unixfs")?,
-        _ => return Ok(false),
+        _ => {
+            let path = path_of(alloc, files, b"a")?;
+            return sets_a(files, path.as_str(), step);
+        }
     }
     Ok(true)
 }
@@ -479,41 +516,43 @@ fn first_lost_by_sweep<L: Ledger, R: Files + RandomSource>(
     Ok(None)
 }
 
-// Which tables are right, and the first calls of the machine whose failure isn't survived.
+// The first of these tables that isn't right.
+fn first_wrong<L: Ledger, R: Files + RandomSource>(
+    alloc: Global,
+    files: &R,
+    touches: &mut Steps<L>,
+) -> io::Result<Option<usize>> {
+    for at in 0..TABLES.len() {
+        if !are_right::<Sha256Hash, L, R>(alloc, files, TABLES[at], touches)? {
+            return Ok(Some(at));
+        }
+    }
+    Ok(None)
+}
+
+// The first table that isn't right, whether that of clashes is, and the first calls of the machine whose failure a sweep
+// or a write doesn't survive.
 fn outcome_by<L: Ledger, R: Files + RandomSource>(
     alloc: Global,
     files: &R,
     blank: Blank,
-) -> io::Result<([bool; 9], Option<u64>, Option<u64>)>
+) -> io::Result<(Option<usize>, bool, Option<u64>, Option<u64>)>
     requires name { blank.name ≡ L.name }
     requires parts { blank.parts ≡ L.parts }
     requires some { 0 < blank.parts }
 {
     let mut touches = Steps::<L>::new(blank);
-    let keeps = are_right::<Sha256Hash, L, R>(alloc, files, &KEEPS, &mut touches)?;
-    let mends = are_right::<Sha256Hash, L, R>(alloc, files, &MENDS, &mut touches)?;
-    let clears = are_right::<Sha256Hash, L, R>(alloc, files, &CLEARS, &mut touches)?;
-    let foresees = are_right::<Sha256Hash, L, R>(alloc, files, &FORESEES, &mut touches)?;
-    let unlike = are_right::<Sha256Hash, L, R>(alloc, files, &UNLIKE, &mut touches)?;
-    let sweeps = are_right::<Sha256Hash, L, R>(alloc, files, &SWEEPS, &mut touches)?;
-    let filed = are_right::<Sha256Hash, L, R>(alloc, files, &FILED, &mut touches)?;
+    let wrong = first_wrong(alloc, files, &mut touches)?;
     let lost_by_sweep = first_lost_by_sweep(alloc, files, &mut touches)?;
     let clashes = are_right::<Sum8Hash, L, R>(alloc, files, &CLASHES, &mut touches)?;
     let lost = first_lost(alloc, files, &mut touches)?;
-    let refuses = are_right::<Sha256Hash, L, R>(alloc, files, &REFUSES, &mut touches)?;
-    Ok((
-        [
-            keeps, mends, clears, foresees, unlike, sweeps, filed, clashes, refuses,
-        ],
-        lost_by_sweep,
-        lost,
-    ))
+    Ok((wrong, clashes, lost_by_sweep, lost))
 }
 
 fn outcome<R: Files + RandomSource>(
     alloc: Global,
     files: &R,
-) -> io::Result<([bool; 9], Option<u64>, Option<u64>)> {
+) -> io::Result<(Option<usize>, bool, Option<u64>, Option<u64>)> {
     outcome_by::<Brand, R>(alloc, files, Blank::new(1))
 }
 
@@ -521,85 +560,6 @@ fn outcome<R: Files + RandomSource>(
 fn a_store_keeps_mends_clears_foresees_sweeps_clashes_refuses_and_survives(
     rt: HostRuntime,
 ) -> io::Result<()> {
-    assert_eq!(rt; outcome(rt.alloc(), &rt)?, ([true; 9], None, None));
+    assert_eq!(rt; outcome(rt.alloc(), &rt)?, (None, true, None, None));
     Ok(())
-}
-
-// A call of a host, and what is to come of it.
-#[derive(Clone, Copy)]
-enum HostStep {
-    Is(&'static str, Kind),
-    Makes(&'static str, Put),
-    Appends(&'static str, &'static [u8], Put),
-    Reads(&'static str, u64, Fetched),
-    // The buffer begins with these bytes.
-    Gives(&'static [u8]),
-    Lists(&'static str, &'static [&'static str]),
-}
-
-// A host makes, grows, lists and reads files. At the empty path it makes nothing.
-const HOSTS: [HostStep; 21] = [
-    HostStep::Is("", Kind::Absent),
-    HostStep::Makes("", Put::Failed),
-    HostStep::Appends("", b"x", Put::Failed),
-    HostStep::Is("host", Kind::Absent),
-    HostStep::Makes("host", Put::Done),
-    HostStep::Makes("host", Put::Failed),
-    HostStep::Is("host", Kind::Folder),
-    HostStep::Appends("host/b", b"0123456789", Put::Done),
-    HostStep::Appends("host/a", b"", Put::Done),
-    HostStep::Appends("host/b", b"x", Put::Done),
-    HostStep::Appends("host", b"x", Put::Failed),
-    HostStep::Is("host/b", Kind::File),
-    HostStep::Is("host/b/c", Kind::Absent),
-    HostStep::Reads("host/b", 0, Fetched::Got(8)),
-    HostStep::Reads("host/b", 8, Fetched::Got(3)),
-    HostStep::Gives(b"89x"),
-    HostStep::Reads("host/b", 11, Fetched::End),
-    HostStep::Reads("host/b", 5, Fetched::Got(6)),
-    HostStep::Reads("host/a", 0, Fetched::End),
-    HostStep::Reads("host/none", 0, Fetched::Failed),
-    HostStep::Lists("host", &["a", "b"]),
-];
-
-fn lists(listing: Listing, wanted: &[&str]) -> bool {
-    match listing {
-        Listing::Names(names) => {
-            names.len() == wanted.len()
-                && names
-                    .as_slice()
-                    .iter()
-                    .zip(wanted)
-                    .all(|(name, text)| name.as_str() == *text)
-        }
-        _ => false,
-    }
-}
-
-// Whether a call of a host goes so.
-fn host_goes<R: Files>(host: &mut DiskHost<R>, buffer: &mut [u8; 8], step: &HostStep) -> bool {
-    match step {
-        HostStep::Is(path, kind) => host.kind(*path) == *kind,
-        HostStep::Makes(path, answer) => host.make_folder(*path) == *answer,
-        HostStep::Appends(path, piece, answer) => host.append(*path, *piece) == *answer,
-        HostStep::Reads(path, offset, answer) => host.read_at(*path, *offset, buffer) == *answer,
-        HostStep::Gives(bytes) => buffer.starts_with(*bytes),
-        HostStep::Lists(path, names) => lists(host.list(*path), *names),
-    }
-}
-
-fn first_wrong_call<R: Files>(alloc: Global, files: &R) -> Option<usize> {
-    let mut host = DiskHost::<&R>::new(alloc, files);
-    let mut buffer = [0u8; 8];
-    for at in 0..HOSTS.len() {
-        if !host_goes(&mut host, &mut buffer, &HOSTS[at]) {
-            return Some(at);
-        }
-    }
-    None
-}
-
-#[test]
-fn a_host_makes_grows_lists_and_reads_files(rt: HostRuntime) {
-    assert_eq!(rt; first_wrong_call(rt.alloc(), &rt), None);
 }
