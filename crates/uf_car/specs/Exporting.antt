@@ -47,6 +47,7 @@ abbrev pub WalksAll : Result (List Cid) OrderFault → Result Walked ExportFault
 WalksAll said (Ok w) = said ≡ Ok w.handed
 WalksAll said (Err f) = StopsOrder said f
 
+-- the same of a walk that was lent
 abbrev pub EndsOrder : Result (List Cid) OrderFault → Result Unit ExportFault → Walked → Type 0
 EndsOrder said (Ok u) now = said ≡ Ok now.handed
 EndsOrder said (Err f) now = StopsOrder said f

@@ -66,7 +66,7 @@ fn walk_from<S: Store, L: Ledger>(
     Ok(walk)
 }
 
-// Walks all that a walk has ahead.
+// Goes along a walk to its end.
 fn walk_all<S: Store, L: Ledger>(
     store: &mut S,
     walk: &mut Walk,
