@@ -47,6 +47,11 @@ abbrev pub WalksAll : Result (List Cid) OrderFault → Result Walked ExportFault
 WalksAll said (Ok w) = said ≡ Ok w.handed
 WalksAll said (Err f) = StopsOrder said f
 
+-- the same of a walk that was lent
+abbrev pub EndsOrder : Result (List Cid) OrderFault → Result Unit ExportFault → Walked → Type 0
+EndsOrder said (Ok u) now = said ≡ Ok now.handed
+EndsOrder said (Err f) now = StopsOrder said f
+
 -- a block was taken, so the order goes on as it did, or its fault is the first
 abbrev pub FollowsOrder : Lookup → Result Unit ExportFault → Walked → Walked → Type 0
 FollowsOrder held (Ok t) before now = course (follow_held held) now ≡ course (follow_held held) before

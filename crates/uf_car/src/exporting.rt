@@ -1,13 +1,14 @@
 //! CARs written from a store.
-ghost use Rattle.std.specs.Prelude.{◌≡◌, ◌≤◌, ◌<◌, false, Some, OnOk, IfOk, length};
+ghost use Rattle.std.specs.Prelude.{◌≡◌, ◌≤◌, ◌<◌, false, None, Some, OnOk, IfOk, length};
 ghost use Rattle.uf_edge.specs.Counts.{Counts};
 ghost use Rattle.uf_store.specs.Calls.{OnlyReads};
 ghost use Rattle.uf_store.specs.Contents.{Contents, held_at};
 ghost use Rattle.uf_store.specs.Faults.{NoneIsBad, Shown};
-ghost use Rattle.uf_walk.specs.Order.{order};
+ghost use Rattle.uf_walk.specs.Order.{follow_held, order, ordered};
 ghost use Rattle.uf_walk.specs.Turns.{HasTaken};
-ghost use Rattle.uf_car.specs.Exporting.{Exports, FollowsOrder, IsAfterWalk, WalksAll, WritesBlock, WritesCar};
-ghost use Rattle.uf_car.specs.Exporting.{WritesSome};
+ghost use Rattle.uf_walk.specs.Walked.{course};
+ghost use Rattle.uf_car.specs.Exporting.{EndsOrder, Exports, FollowsOrder, IsAfterWalk, WalksAll, WritesBlock};
+ghost use Rattle.uf_car.specs.Exporting.{WritesCar, WritesSome};
 ghost use Rattle.uf_car.specs.Exporting.{export_fault, is_sink_fault};
 ghost use Rattle.uf_car.specs.Text.{car_text, section_bytes};
 
@@ -61,11 +62,27 @@ fn walk_from<S: Store, L: Ledger>(
 {
     let mut walk = Walk::new(alloc, most);
     walk.add_root(root)?;
+    walk_all(store, &mut walk, touches)?;
+    Ok(walk)
+}
+
+// Goes along a walk to its end.
+fn walk_all<S: Store, L: Ledger>(
+    store: &mut S,
+    walk: &mut Walk,
+    touches: &mut Steps<L>,
+) -> Result<(), ExportFault>
+    requires { walk.old.due ≡ None }
+    ensures walked { (t : Contents) → (S.seen store.old).told ≡ Some t
+        → EndsOrder (ordered (held_at t) (course (follow_held (held_at t)) walk.old)) result walk.new }
+    ensures reads { OnlyReads S.X.block32 NoneIsBad (export_fault result) (S.seen store.old) (S.seen store.new) }
+    ensures no_sink { is_sink_fault result ≡ false }
+{
     loop {
         match walk.advance()? {
-            Turn::End => return Ok(walk),
+            Turn::End => return Ok(()),
             Turn::TooMany => return Err(ExportFault::TooMany),
-            Turn::At(cid) => take_block(&mut walk, store, &cid, touches)?,
+            Turn::At(cid) => take_block(walk, store, &cid, touches)?,
         }
     }
 }

@@ -1,5 +1,5 @@
 //! Raw blocks that a store is told of before they are loaded: the leaves of a file lie side by side in a walk.
-ghost use Rattle.std.specs.Prelude.{◌≡◌};
+ghost use Rattle.std.specs.Prelude.{◌≡◌, ◌≤◌, length};
 
 use uf_cid::{Cid, Codec};
 use uf_store::Store;
@@ -16,17 +16,25 @@ pub(crate) fn foresee_next<S: Store>(store: &mut S, next: &Cid, rest: &[Cid])
         return;
     }
     let mut cids = [*next; MOST_AHEAD];
-    let mut count = 1;
-    for cid in rest.iter().rev() {
-        if count == MOST_AHEAD || cid.codec != Codec::Raw {
-            break;
-        }
-        cids[count] = *cid;
-        count += 1;
-    }
+    let count = 1 + copy_last(rest, &mut cids[1..]);
     if count > 1 {
         store.foresee(&cids[..count]);
     }
+}
+
+// Copies the CIDs of raw blocks with which some CIDs end, the last one first: how many.
+fn copy_last(rest: &[Cid], cids: &mut [Cid]) -> usize
+    ensures { result ≤ length cids.old }
+{
+    let most = rest.len().min(cids.len());
+    for count in 0..most {
+        let cid = rest[rest.len() - 1 - count];
+        if cid.codec != Codec::Raw {
+            return count;
+        }
+        cids[count] = cid;
+    }
+    most
 }
 
 /// Tells a store of the raw blocks that a walk has handed out from a place on.
@@ -34,17 +42,23 @@ pub(crate) fn foresee_met<S: Store>(store: &mut S, walk: &Walk, place: u32)
     ensures { S.seen store.new ≡ S.seen store.old }
 {
     let mut cids = [NO_CID; MOST_AHEAD];
-    let mut count = 0;
-    for at in 0..MOST_AHEAD {
-        match walk.met(place.saturating_add(at as u32)) {
-            Some(cid) if cid.codec == Codec::Raw => cids[at] = cid,
-            _ => break,
-        }
-        count = at + 1;
-    }
+    let count = copy_met(walk, place, &mut cids);
     if count > 1 {
         store.foresee(&cids[..count]);
     }
+}
+
+// Copies the CIDs of raw blocks that a walk has handed out from a place on: how many.
+fn copy_met(walk: &Walk, place: u32, cids: &mut [Cid; MOST_AHEAD]) -> usize
+    ensures { result ≤ 8 }
+{
+    for at in 0..MOST_AHEAD {
+        match walk.met(place.saturating_add(at as u32)) {
+            Some(cid) if cid.codec == Codec::Raw => cids[at] = cid,
+            _ => return at,
+        }
+    }
+    MOST_AHEAD
 }
 
 // What stands where there is none.

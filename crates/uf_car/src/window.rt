@@ -23,7 +23,7 @@ pub enum Supply {
 }
 
 // Whether as many bytes are there as were wanted.
-#[derive(Clone, Copy, PartialEq, Eq)]
+#[derive(Clone, Copy)]
 pub enum Fill {
     Enough,
     Short,

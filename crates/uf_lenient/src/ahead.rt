@@ -1,5 +1,5 @@
 //! Leaves of a file that a store is told of before they are visited.
-ghost use Rattle.std.specs.Prelude.{◌≡◌, ◌≤◌, ◌+◌, OnOk};
+ghost use Rattle.std.specs.Prelude.{◌≡◌, ◌≤◌, ◌+◌, OnOk, length};
 ghost use Rattle.uf_lenient.specs.Pending.{own_part};
 ghost use Rattle.uf_lenient.specs.Calls.{LendsVisited, ReadsDag, SaysVisits, TouchesByVisit};
 
@@ -9,7 +9,7 @@ use crate::parts::read_node;
 use crate::visiting::enter;
 use std::alloc::Global;
 use std::sync::ledger::Ledger;
-use uf_cid::{Block, Codec};
+use uf_cid::{Block, Cid, Codec};
 use uf_dagpb::Links;
 use uf_store::{Steps, Store};
 
@@ -65,17 +65,25 @@ fn foresee_leaves<S: Store>(store: &mut S, next: &Due, rest: &[Due])
         return;
     }
     let mut leaves = [next.cid; MOST_AHEAD];
-    let mut count = 1;
-    for due in rest.iter().rev() {
-        if count == MOST_AHEAD || !is_leaf(due) {
-            break;
-        }
-        leaves[count] = due.cid;
-        count += 1;
-    }
+    let count = 1 + copy_leaves(rest, &mut leaves[1..]);
     if count > 1 {
         store.foresee(&leaves[..count]);
     }
+}
+
+// Copies the CIDs of the leaves with which some visits end, the last one first: how many.
+fn copy_leaves(rest: &[Due], leaves: &mut [Cid]) -> usize
+    ensures { result ≤ length leaves.old }
+{
+    let most = rest.len().min(leaves.len());
+    for count in 0..most {
+        let due = &rest[rest.len() - 1 - count];
+        if !is_leaf(due) {
+            return count;
+        }
+        leaves[count] = due.cid;
+    }
+    most
 }
 
 // Whether a visit is that of a part of a file which links nothing.

@@ -66,10 +66,27 @@ fn complete<S: Store, L: Ledger>(
     ensures touches { TouchesByVisit visits.old visits.new touches.old touches.new }
 {
     let shape = shape_of(alloc, &gathered)?;
+    read_gathered(alloc, store, gathered, left, visits, touches)?;
+    Ok(shape)
+}
+
+// Reads everything below what was gathered.
+fn read_gathered<S: Store, L: Ledger>(
+    alloc: Global,
+    store: &mut S,
+    gathered: Gathered,
+    left: u64,
+    visits: &mut u32,
+    touches: &mut Steps<L>,
+) -> Result<(), DagFault>
+    ensures says { ReadsAllDue S.X.block32 (S.seen store.old) (gathered_due left gathered) visits.old visits.new
+        result }
+    ensures reads { ReadsDag S.X.block32 (S.seen store.old) (S.seen store.new) result }
+    ensures touches { TouchesByVisit visits.old visits.new touches.old touches.new }
+{
     let mut due = Pile::new(alloc);
     put_gathered(&mut due, gathered, left)?;
-    read_due(alloc, store, &mut due, visits, touches)?;
-    Ok(shape)
+    read_due(alloc, store, &mut due, visits, touches)
 }
 
 // Reads what is in a pile, from its top down, and everything below it.

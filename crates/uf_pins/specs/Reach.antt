@@ -52,6 +52,11 @@ abbrev pub Reaches : Result (List Cid) OrderFault → Result (List Cid) PinFault
 Reaches said (Ok list) = said ≡ Ok list
 Reaches said (Err f) = StopsReach said f
 
+-- the same of a list to which it was added
+abbrev pub ReachesAll : Result (List Cid) OrderFault → Result Unit PinFault → List Cid → Type 0
+ReachesAll said (Ok u) list = said ≡ Ok list
+ReachesAll said (Err f) list = StopsReach said f
+
 -- a walk that has these roots ahead, and has handed out nothing
 pub record HasRoots (most : ℕ) (roots : List Cid) (w : Walked) : Type 0 where
   pub due : w.due ≡ None

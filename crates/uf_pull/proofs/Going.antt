@@ -1,6 +1,6 @@
 -- How far a pull has come, and how it ends.
-use Rattle.std.proofs.Common.{◌≡◌, ℕ, suc, ◌+◌, ◌-◌, ◌≤◌, ◌<◌, List, [], ◌∷◌, ◌++◌, length, take, drop, Bool, true, false, append-nil, length-append, refl, sym, ap, subst, ◌∙◌, arith, Result, Ok, Err, ◌⊎◌, inl, inr}
-use Rattle.std.specs.Prelude.{Some, None}
+use Rattle.std.proofs.Common.{◌≡◌, ℕ, suc, ◌+◌, ◌-◌, ◌≤◌, ◌<◌, List, [], ◌∷◌, ◌++◌, length, take, drop, true, false, append-nil, length-append, refl, sym, ap, subst, ◌∙◌, arith, Result, Ok, Err, ◌⊎◌, inl, inr}
+use Rattle.std.specs.Prelude.{Some, OnOk}
 use Rattle.std.proofs.lemmas.List.{drop-drop, take_all}
 use Rattle.uf_cid.specs.Blocks.{Held, Lookup}
 use Rattle.uf_cid.specs.declared.cid.Cid.{Cid}
@@ -13,9 +13,9 @@ use Rattle.uf_walk.specs.Turns.{HandsOut}
 use Rattle.uf_walk.specs.Walked.{Walked}
 use Rattle.uf_pull.specs.declared.fault.PullFault.{PullFault}
 use Rattle.uf_pull.specs.declared.fault.PullFault.TheVariants as fault
-use Rattle.uf_pull.specs.Due.{Due, cids_of, due, due_behind, due_end, due_text, due_within}
+use Rattle.uf_pull.specs.Due.{Due, cids_of, due, due_behind, due_end, due_text}
 use Rattle.uf_pull.specs.Frames.{frames, frames_from}
-use Rattle.uf_pull.specs.Pulling.{Closes, PullsOn, IsOnCourse, Pulls, RefusesBy, Stand, VisitsCid, at_first, due_at, with_all}
+use Rattle.uf_pull.specs.Pulling.{Closes, PullsOn, IsOnCourse, Pulls, RefusesBy, Stand, VisitsCid, due_at, with_all}
 use Rattle.uf_pull.specs.Reading.{stops_pull}
 use Rattle.uf_pull.specs.Wants.{done_line, wants_text}
 use Rattle.uf_pull.specs.Wholes.{AsksForUnheld, holding_all}
@@ -180,10 +180,11 @@ held-with_all : (blocks : List Held) (t : Contents) → held_at (with_all blocks
 held-with_all [] t = refl
 held-with_all (b ∷ blocks) t = held-with_all blocks (with_save b.0 b.1 t) ∙ ap (holding_all blocks) (held-with t b.0 b.1)
 
-pub asked_all : (hash : List ℕ → List ℕ) (most : ℕ) (root : Cid) (bytes : List ℕ) (n : ℕ) (t u : Contents) (told_now : Told) (out out_now left_now : streams.Told) → told_now ≡ Some u
-    → Pulls (due hash most root (held_at t) bytes) bytes (Ok n) t told_now out out_now left_now
-    → AsksForUnheld most root (held_at t) (held_at u) (due hash most root (held_at t) bytes).wants
-asked_all hash most root bytes n t u told_now out out_now left_now is pulled =
+pub asked_all : (hash : List ℕ → List ℕ) (most : ℕ) (root : Cid) (bytes : List ℕ) (r : Result ℕ PullFault) (t u : Contents) (told_now : Told) (out out_now left_now : streams.Told) → told_now ≡ Some u
+    → Pulls (due hash most root (held_at t) bytes) bytes r t told_now out out_now left_now
+    → OnOk r (AsksForUnheld most root (held_at t) (held_at u) (due hash most root (held_at t) bytes).wants)
+asked_all hash most root bytes (Err f) t u told_now out out_now left_now is refused = tt
+asked_all hash most root bytes (Ok n) t u told_now out out_now left_now is pulled =
     let blocks = (due hash most root (held_at t) bytes).blocks in
     let same : ◌≡◌ {A = Told} (Some u) (Some (with_sync (with_all blocks t))) = sym is ∙ pulled.kept in
     let now : u ≡ with_sync (with_all blocks t) = cc in

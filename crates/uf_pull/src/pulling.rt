@@ -1,5 +1,5 @@
 //! A DAG pulled from a peer into a store.
-ghost use Rattle.std.specs.Prelude.{◌≡◌, ◌≤◌, ◌<◌, ◌-◌, ◌^◌, ℕ, List, Some, None, OnOk, IfSome, false};
+ghost use Rattle.std.specs.Prelude.{◌≡◌, ◌≤◌, ◌<◌, ◌-◌, ◌^◌, ℕ, List, [], Some, None, OnOk, IfSome, false};
 ghost use Rattle.uf_edge.specs.Counts.{Counts};
 ghost use Rattle.uf_edge.specs.Streams.{Told, after};
 ghost use Rattle.uf_store.specs.Calls.{OnlySaves};
@@ -12,7 +12,7 @@ ghost use Rattle.uf_pull.specs.Due.{due};
 ghost use Rattle.uf_pull.specs.Pulling.{Closes, IsOnCourse, IsPulling, IsSaveOrSync, LooksFor, OnlyPulls, Pulls};
 ghost use Rattle.uf_pull.specs.Pulling.{SendsLine};
 ghost use Rattle.uf_pull.specs.Pulling.{StepsWalk};
-ghost use Rattle.uf_pull.specs.Pulling.{VisitsCid, stand};
+ghost use Rattle.uf_pull.specs.Pulling.{VisitsCid, at_first, stand};
 ghost use Rattle.uf_pull.specs.Reading.{IsInPlace, is_pull_read, is_pull_sink, pull_fault};
 ghost use Rattle.uf_pull.specs.Serving.{WritesBytes};
 ghost use Rattle.uf_pull.specs.Wants.{done_line, want_line};
@@ -62,6 +62,32 @@ pub fn pull<S: Store, I: Source, O: Sink, L: Ledger>(
     let mut walk = Walk::new(alloc, most);
     walk.add_root(cid)?;
     let mut peer = Peer::new(alloc)?;
+    pull_all(store, &mut walk, &mut peer, input, out, touches)
+}
+
+// Visits all CIDs that a walk hands out, and closes. It answers the number of blocks that were added.
+fn pull_all<S: Store, I: Source, O: Sink, L: Ledger>(
+    store: &mut S,
+    walk: &mut Walk,
+    peer: &mut Peer,
+    input: &mut I,
+    out: &mut O,
+    touches: &mut Steps<L>,
+) -> Result<u64, PullFault>
+    requires due { walk.old.due ≡ None }
+    requires most { walk.old.most < 2 ^ 32 }
+    requires handed { walk.old.handed ≡ [] }
+    requires first { stand peer.old ≡ at_first }
+    ensures pulls { (t : Contents) (bytes : List ℕ) (root : TheCid) → (S.seen store.old).told ≡ Some t
+        → I.left input.old ≡ Some bytes → IsOnCourse root (held_at t) walk.old
+        → Pulls (due S.X.block32 walk.old.most root (held_at t) bytes) bytes result t (S.seen store.new).told
+        (O.holds out.old) (O.holds out.new) (I.left input.new) }
+    ensures some { WritesBytes (O.holds out.old) (O.holds out.new) }
+    ensures fault { IfSome (pull_fault result) IsPulling }
+    ensures keeps { OnlyPulls S.X.block32 (pull_fault result) (S.seen store.old) (S.seen store.new) }
+    ensures reads { Counts (is_pull_read result) (I.faults input.old) (I.faults input.new) }
+    ensures writes { Counts (is_pull_sink result) (O.faults out.old) (O.faults out.new) }
+{
     'rest: loop {
         match walk.advance()? {
             Turn::End => {
@@ -69,7 +95,7 @@ pub fn pull<S: Store, I: Source, O: Sink, L: Ledger>(
                 return Ok(peer.added as u64);
             }
             Turn::TooMany => return Err(PullFault::TooMany),
-            Turn::At(next) => visit(store, &next, &mut walk, &mut peer, input, out, touches)?,
+            Turn::At(next) => visit(store, &next, walk, peer, input, out, touches)?,
         }
     }
 }

@@ -1,0 +1,18 @@
+use Rattle.std.proofs.Common.{Err, subst, ◌∙◌}
+use Rattle.std.proofs.lemmas.Result.{err_from_is_err_and}
+use Rattle.uf_store.specs.Contents.{held_at}
+use Rattle.uf_walk.specs.Order.{Course, follow_held, ordered}
+use Rattle.uf_walk.specs.Turns.{HandsOut}
+use Rattle.uf_walk.specs.Walked.{course}
+use Rattle.uf_car.specs.Exporting.{EndsOrder, StopsOrder}
+use Rattle.uf_car.proofs.exporting.walk_all.Goals as goal
+
+pub returns-in_err-take_block-in-At-clause-walked : goal.returns-in_err-take_block-in-At-clause-walked
+returns-in_err-take_block-in-At-clause-walked g c t is =
+    let out = err_from_is_err_and c.from_residual-in_err-take_block-in-At.result c.from_residual-in_err-take_block-in-At.ensures.1 in
+    let handed : HandsOut c.in-At.cid c.loop-cid.walk c.advance.new.self = rw c.in-At.is at c.in_ok-advance.ensures in
+    let on = handed.course (follow_held (held_at t)) ∙ c.loop-cid.invariant.course t is in
+    let h : EndsOrder (ordered (held_at t) (course (follow_held (held_at t)) c.args.walk.now)) (Err c.in_err-take_block-in-At.field-0.0) c.take_block.new.walk =
+    subst (λ (x : Course). StopsOrder (ordered (held_at t) x) c.in_err-take_block-in-At.field-0.0) on
+    (c.in_err-take_block-in-At.ensures.order t (c.loop-cid.invariant.reads.told ∙ is)) in
+    rw (out.1, out.2) h
