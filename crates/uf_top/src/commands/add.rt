@@ -14,6 +14,7 @@ ghost use Rattle.uf_top.specs.Lent.{OverInput};
 ghost use Rattle.uf_top.specs.Shapes.{WritesAs, is_ok};
 ghost use Rattle.uf_top.specs.Working.{Makes};
 ghost use Rattle.uf_command.specs.declared.types.Command.TheVariants as commands;
+ghost use Rattle.uf_command.specs.declared.types.Adding.TheVariants as adding;
 
 use crate::given::Given;
 use std::alloc::Global;
@@ -35,7 +36,8 @@ pub fn adds<S: Store, I: Source, L: Ledger>(
     input: &mut I,
     touches: &mut Steps<L>,
 ) -> Result<Block, Refusal>
-    ensures works { (N : List ℕ → ℕ) → OverInput I.Source (Makes S.X.block32 N (commands.Add only_hash) result)
+    ensures
+        works { (N : List ℕ → ℕ) → OverInput I.Source (Makes S.X.block32 N (commands.Add (adding.Input only_hash)) result)
         (S.seen store.old) input.old touches.old (S.seen store.new) input.new touches.new }
     ensures untouched { only_hash ≡ true → touches.new ≡ touches.old }
 {
@@ -53,7 +55,7 @@ fn add<S: Store, I: Source, L: Ledger>(
     input: &mut I,
     touches: &mut Steps<L>,
 ) -> Result<Block, Refusal>
-    ensures { (N : List ℕ → ℕ) → OverInput I.Source (Makes S.X.block32 N (commands.Add false) result)
+    ensures { (N : List ℕ → ℕ) → OverInput I.Source (Makes S.X.block32 N (commands.Add (adding.Input false)) result)
         (S.seen store.old) input.old touches.old (S.seen store.new) input.new touches.new }
 {
     match head_profile(alloc, store)? {
@@ -69,7 +71,7 @@ fn add_only_hash<S: Store, I: Source>(
     input: &mut I,
 ) -> Result<Block, Refusal>
     ensures { (N : List ℕ → ℕ) (held : Told) (writes touches : ℕ) (host : HostSide)
-        → Makes S.X.block32 N (commands.Add true) result
+        → Makes S.X.block32 N (commands.Add (adding.Input true)) result
         (around (S.seen store.old) (I.left input.old) (I.faults input.old) held writes touches host)
         (around (S.seen store.new) (I.left input.new) (I.faults input.new) held writes touches host) }
 {

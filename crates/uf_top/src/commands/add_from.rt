@@ -4,6 +4,7 @@ ghost use Rattle.std.specs.List.{flat_map};
 ghost use Rattle.uf_edge.specs.Streams.{Told};
 ghost use Rattle.uf_command.specs.Natures.{SyncsBlocks};
 ghost use Rattle.uf_command.specs.declared.types.Command.TheVariants as commands;
+ghost use Rattle.uf_command.specs.declared.types.Adding.TheVariants as adding;
 ghost use Rattle.uf_store.specs.Keeping.{KeepsGood};
 ghost use Rattle.uf_top.specs.Around.{OnlyReadsHost, around};
 ghost use Rattle.uf_top.specs.Lent.{OverHost, side_at};
@@ -40,7 +41,8 @@ pub fn add_from<S: Store, N: NameHash, W: Host, L: Ledger>(
     host: &mut W,
     touches: &mut Steps<L>,
 ) -> Result<Block, Refusal>
-    ensures works { OverHost W.Host (Makes S.X.block32 N.name64 (commands.AddFrom recursive only_hash path.now) result)
+    ensures
+        works { OverHost W.Host (Makes S.X.block32 N.name64 (commands.Add (adding.Host recursive only_hash path.now)) result)
         (S.seen store.old) touches.old host.old (S.seen store.new) touches.new host.new }
     ensures untouched { only_hash ≡ true → touches.new ≡ touches.old }
 {
@@ -60,7 +62,7 @@ fn keep_from<S: Store, N: NameHash, W: Host, L: Ledger>(
     host: &mut W,
     touches: &mut Steps<L>,
 ) -> Result<Block, Refusal>
-    ensures { OverHost W.Host (Makes S.X.block32 N.name64 (commands.AddFrom recursive false path.now) result)
+    ensures { OverHost W.Host (Makes S.X.block32 N.name64 (commands.Add (adding.Host recursive false path.now)) result)
         (S.seen store.old) touches.old host.old (S.seen store.new) touches.new host.new }
 {
     match head_profile(alloc, store)? {
@@ -80,7 +82,7 @@ fn hash_from<S: Store, N: NameHash, W: Host>(
     host: &mut W,
 ) -> Result<Block, Refusal>
     ensures { (left : Told) (reads : ℕ) (held : Told) (writes : ℕ) (touches : ℕ) → Makes S.X.block32 N.name64
-        (commands.AddFrom recursive true path.now) result
+        (commands.Add (adding.Host recursive true path.now)) result
         (around (S.seen store.old) left reads held writes touches (side_at W.Host host.old))
         (around (S.seen store.new) left reads held writes touches (side_at W.Host host.new)) }
 {

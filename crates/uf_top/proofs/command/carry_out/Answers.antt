@@ -1,7 +1,8 @@
 use Rattle.std.proofs.Common.{◌≡◌, ◌∙◌, ℕ, List, Bool, false, true, ap, refl, sym, subst}
 use Rattle.std.specs.Prelude.{IfErr}
 use Rattle.uf_command.specs.Natures.{generates, own_store, reads_input, reads_tree_alone, touches_nothing, uses_host}
-use Rattle.uf_command.specs.declared.types.Command.TheVariants.{Init, Add, AddFrom, AddTo, AddFromTo, WriteInput, At, Adopt, Cat, Export, Get, Import, Pin, Prove, Read, Same}
+use Rattle.uf_command.specs.declared.types.Command.TheVariants.{Init, Add, WriteInput, At, Adopt, Cat, Export, Get, Import, Pin, Prove, Read, Same}
+use Rattle.uf_command.specs.declared.types.Adding.TheVariants as adding
 use Rattle.uf_command.specs.declared.types.PinAsk.{PinAsk}
 use Rattle.uf_command.specs.declared.types.PinAsk.TheVariants as pins
 use Rattle.uf_top.specs.Around.{around, host_side}
@@ -18,11 +19,11 @@ only-lists (pins.Remove cid) e = absurd cc
 only-lists pins.List e = refl
 
 -- what counts no touch is only hashed
-only-hashed : (only_hash : Bool) → touches_nothing (Add only_hash) ≡ true → only_hash ≡ true
+only-hashed : (only_hash : Bool) → touches_nothing (Add (adding.Input only_hash)) ≡ true → only_hash ≡ true
 only-hashed true e = refl
 only-hashed false e = absurd cc
 
-only-hashed-from : (recursive only_hash : Bool) (path : List ℕ) → touches_nothing (AddFrom recursive only_hash path) ≡ true → only_hash ≡ true
+only-hashed-from : (recursive only_hash : Bool) (path : List ℕ) → touches_nothing (Add (adding.Host recursive only_hash path)) ≡ true → only_hash ≡ true
 only-hashed-from recursive true path e = refl
 only-hashed-from recursive false path e = absurd cc
 
@@ -62,7 +63,7 @@ returns-in-Add g c =
       own = spares-own g.S.X.BlockHash.block32 l (g.S.Store.seen c.args.store.now) (g.S.Store.seen c.adds.new.store) c.args.command.now c.say-in-Add.result (alone-spares c.args.command.now alone) does.kinds;
       spares = record {
         left = λ e. absurd (alone-given c.args.command.now alone e);
-        input = λ e. absurd (let k : reads_input (Add c.in-Add.only_hash) ≡ false = ap reads_input (sym c.in-Add.is) ∙ e in cc);
+        input = λ e. absurd (let k : reads_input (Add (adding.Input c.in-Add.only_hash)) ≡ false = ap reads_input (sym c.in-Add.is) ∙ e in cc);
         host = λ e. refl;
         untouched = λ e. c.adds.ensures.untouched (only-hashed c.in-Add.only_hash (ap touches_nothing (sym c.in-Add.is) ∙ e));
       };
@@ -84,7 +85,7 @@ returns-in-AddFrom g c =
       spares = record {
         left = λ e. absurd (alone-given c.args.command.now alone e);
         input = λ e. refl;
-        host = λ e. absurd (let k : uses_host (AddFrom c.in-AddFrom.recursive c.in-AddFrom.only_hash c.in-AddFrom.path) ≡ false = ap uses_host (sym c.in-AddFrom.is) ∙ e in cc);
+        host = λ e. absurd (let k : uses_host (Add (adding.Host c.in-AddFrom.recursive c.in-AddFrom.only_hash c.in-AddFrom.path)) ≡ false = ap uses_host (sym c.in-AddFrom.is) ∙ e in cc);
         untouched = λ e. c.add_from-rows.ensures.untouched (only-hashed-from c.in-AddFrom.recursive c.in-AddFrom.only_hash c.in-AddFrom.path (ap touches_nothing (sym c.in-AddFrom.is) ∙ e));
       };
     }
@@ -104,9 +105,9 @@ returns-in-AddTo g c =
       own = spares-own g.S.X.BlockHash.block32 l (g.S.Store.seen c.args.store.now) (g.S.Store.seen c.add_to.new.store) c.args.command.now c.say-in-AddTo.result (alone-spares c.args.command.now alone) does.kinds;
       spares = record {
         left = λ e. absurd (alone-given c.args.command.now alone e);
-        input = λ e. absurd (let k : reads_input (AddTo c.in-AddTo.dest) ≡ false = ap reads_input (sym c.in-AddTo.is) ∙ e in cc);
+        input = λ e. absurd (let k : reads_input (Add (adding.InputTo c.in-AddTo.dest)) ≡ false = ap reads_input (sym c.in-AddTo.is) ∙ e in cc);
         host = λ e. refl;
-        untouched = λ e. absurd (let k : touches_nothing (AddTo c.in-AddTo.dest) ≡ true = ap touches_nothing (sym c.in-AddTo.is) ∙ e in cc);
+        untouched = λ e. absurd (let k : touches_nothing (Add (adding.InputTo c.in-AddTo.dest)) ≡ true = ap touches_nothing (sym c.in-AddTo.is) ∙ e in cc);
       };
     }
 
@@ -126,8 +127,8 @@ returns-in-AddFromTo g c =
       spares = record {
         left = λ e. absurd (alone-given c.args.command.now alone e);
         input = λ e. refl;
-        host = λ e. absurd (let k : uses_host (AddFromTo c.in-AddFromTo.recursive c.in-AddFromTo.path c.in-AddFromTo.dest) ≡ false = ap uses_host (sym c.in-AddFromTo.is) ∙ e in cc);
-        untouched = λ e. absurd (let k : touches_nothing (AddFromTo c.in-AddFromTo.recursive c.in-AddFromTo.path c.in-AddFromTo.dest) ≡ true = ap touches_nothing (sym c.in-AddFromTo.is) ∙ e in cc);
+        host = λ e. absurd (let k : uses_host (Add (adding.HostTo c.in-AddFromTo.recursive c.in-AddFromTo.path c.in-AddFromTo.dest)) ≡ false = ap uses_host (sym c.in-AddFromTo.is) ∙ e in cc);
+        untouched = λ e. absurd (let k : touches_nothing (Add (adding.HostTo c.in-AddFromTo.recursive c.in-AddFromTo.path c.in-AddFromTo.dest)) ≡ true = ap touches_nothing (sym c.in-AddFromTo.is) ∙ e in cc);
       };
     }
 
