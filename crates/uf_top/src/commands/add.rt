@@ -28,28 +28,8 @@ use uf_plain::Rule;
 use uf_store::{Note, NoteRead, Steps, Store, StoreFault};
 use uf_tree::{Entry, HeadFault, Profile, read_head};
 
-// Adds the input, or only makes its row.
-pub fn adds<S: Store, I: Source, L: Ledger>(
-    alloc: Global,
-    only_hash: bool,
-    store: &mut S,
-    input: &mut I,
-    touches: &mut Steps<L>,
-) -> Result<Block, Refusal>
-    ensures
-        works { (N : List ℕ → ℕ) → OverInput I.Source (Makes S.X.block32 N (commands.Add (adding.Input only_hash)) result)
-        (S.seen store.old) input.old touches.old (S.seen store.new) input.new touches.new }
-    ensures untouched { only_hash ≡ true → touches.new ≡ touches.old }
-{
-    if only_hash {
-        add_only_hash(alloc, store, input)
-    } else {
-        add(alloc, store, input, touches)
-    }
-}
-
 // Adds the input, and makes its blocks durable.
-fn add<S: Store, I: Source, L: Ledger>(
+pub fn add<S: Store, I: Source, L: Ledger>(
     alloc: Global,
     store: &mut S,
     input: &mut I,
@@ -65,7 +45,7 @@ fn add<S: Store, I: Source, L: Ledger>(
 }
 
 // The row of the input as a file, with nothing kept and no touch counted.
-fn add_only_hash<S: Store, I: Source>(
+pub fn add_only_hash<S: Store, I: Source>(
     alloc: Global,
     store: &mut S,
     input: &mut I,

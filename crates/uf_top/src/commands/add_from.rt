@@ -31,30 +31,8 @@ use uf_plain::Rule;
 use uf_store::{Steps, Store};
 use uf_tree::{Entry, Profile};
 
-// Adds what the host has at a path, or only makes its rows.
-pub fn add_from<S: Store, N: NameHash, W: Host, L: Ledger>(
-    alloc: Global,
-    recursive: bool,
-    only_hash: bool,
-    path: &Text,
-    store: &mut S,
-    host: &mut W,
-    touches: &mut Steps<L>,
-) -> Result<Block, Refusal>
-    ensures
-        works { OverHost W.Host (Makes S.X.block32 N.name64 (commands.Add (adding.Host recursive only_hash path.now)) result)
-        (S.seen store.old) touches.old host.old (S.seen store.new) touches.new host.new }
-    ensures untouched { only_hash ≡ true → touches.new ≡ touches.old }
-{
-    if only_hash {
-        hash_from::<S, N, W>(alloc, recursive, path, store, host)
-    } else {
-        keep_from::<S, N, W, L>(alloc, recursive, path, store, host, touches)
-    }
-}
-
 // Adds what the host has at a path, and makes its blocks durable.
-fn keep_from<S: Store, N: NameHash, W: Host, L: Ledger>(
+pub fn keep_from<S: Store, N: NameHash, W: Host, L: Ledger>(
     alloc: Global,
     recursive: bool,
     path: &Text,
@@ -74,7 +52,7 @@ fn keep_from<S: Store, N: NameHash, W: Host, L: Ledger>(
 }
 
 // The rows of what the host has at a path, with nothing kept and no touch counted.
-fn hash_from<S: Store, N: NameHash, W: Host>(
+pub fn hash_from<S: Store, N: NameHash, W: Host>(
     alloc: Global,
     recursive: bool,
     path: &Text,
