@@ -119,10 +119,10 @@ def wrong_lines():
 # Which words are a command's, and what each word of its row is in the table.
 COMMANDS = {
     "Init": "`init`",
-    "Add": "`add`",
-    "AddFrom": "`add HOSTPATH`",
-    "AddTo": "`add --to-files DEST`",
-    "AddFromTo": "`add --to-files DEST HOSTPATH`",
+    "Input": "`add`",
+    "Host": "`add HOSTPATH`",
+    "InputTo": "`add --to-files DEST`",
+    "HostTo": "`add --to-files DEST HOSTPATH`",
     "WriteInput": "`files write` without `-x`",
     "At": "`files ls`, `stat`, `mkdir`, `rm`, `truncate`, `cp`, `mv`, `write -x`, `chmod`, `touch`, `strip`",
     "Read": "`files read`",
@@ -186,7 +186,7 @@ def natures():
     told = {name: ", ".join(KINDS.get(kind, kind) for kind in row.split(" ∷ ")) for name, row in kinds.items()}
     asks = re.findall(r"^pin_kinds \(?pins\.(\w+)[^=]*= (\w+)$", text, flags=re.M)
     told["(pin_kinds ask)"] = "; ".join(f"`{ASKS.get(ask, ask)}`: {told[name]}" for ask, name in asks)
-    for name, row in re.findall(r"^nature \(?(\w+)[^=]*= row (.*)$", text, flags=re.M):
+    for name, row in re.findall(r"^nature \(?(?:Add \(adding\.)?(\w+)[^=]*= row (.*)$", text, flags=re.M):
         *cells, last = re.findall(r"\([^)]*\)|\S+", row)
         answers = told[last]
         yield [COMMANDS.get(name, name)] + [CELLS.get(cell, cell) for cell in cells] + [answers]

@@ -33,7 +33,8 @@ use Rattle.uf_words.specs.declared.command.Cmd.TheVariants as cmd
 use Rattle.uf_command.specs.declared.types.Ask.{Ask}
 use Rattle.uf_command.specs.declared.types.Ask.TheVariants.{Ls, Stat, Edit as Edits}
 use Rattle.uf_command.specs.declared.types.Command.{Command}
-use Rattle.uf_command.specs.declared.types.Command.TheVariants.{Init, Add, AddFrom, WriteInput, At, Read, Cat, Get, Export, Import, Same, Adopt, Gen, AddTo, AddFromTo, Pin, Prove}
+use Rattle.uf_command.specs.declared.types.Command.TheVariants.{Init, Add, WriteInput, At, Read, Cat, Get, Export, Import, Same, Adopt, Gen, Pin, Prove}
+use Rattle.uf_command.specs.declared.types.Adding.TheVariants as adding
 use Rattle.uf_command.specs.declared.types.PinAsk.{PinAsk}
 use Rattle.uf_command.specs.declared.types.PinAsk.TheVariants as pins
 use Rattle.uf_command.specs.declared.types.Edit.{Edit}
@@ -61,13 +62,13 @@ at_path ask (Err why) = Err (path_refusal why)
 -- `add --to-files`: the input, or what the host has at a path, is put where a path of the tree leads
 abbrev pub add_to_asked : Bool → Option (List ℕ) → Result Path PathFault → Result Command Refusal
 add_to_asked recursive host_path (Err why) = Err (path_refusal why)
-add_to_asked recursive None (Ok dest) = Ok (AddTo dest)
-add_to_asked recursive (Some path) (Ok dest) = Ok (AddFromTo recursive path dest)
+add_to_asked recursive None (Ok dest) = Ok (Add (adding.InputTo dest))
+add_to_asked recursive (Some path) (Ok dest) = Ok (Add (adding.HostTo recursive path dest))
 
 -- `add` of the input, or of what the host has at a path; words never have `-n` beside `--to-files`
 abbrev pub add_asked : Bool → Bool → Option (List ℕ) → Option (List ℕ) → Result Command Refusal
-add_asked recursive only_hash None None = Ok (Add only_hash)
-add_asked recursive only_hash None (Some path) = Ok (AddFrom recursive only_hash path)
+add_asked recursive only_hash None None = Ok (Add (adding.Input only_hash))
+add_asked recursive only_hash None (Some path) = Ok (Add (adding.Host recursive only_hash path))
 add_asked recursive only_hash (Some dest) host_path = add_to_asked recursive host_path (path_reads dest)
 
 -- `files write` of bytes that stand in the words, or else of the input

@@ -12,7 +12,8 @@ use Rattle.uf_command.specs.declared.status.Status.TheVariants as status
 use Rattle.uf_command.specs.declared.types.Ask.{Ask}
 use Rattle.uf_command.specs.declared.types.Ask.TheVariants.{Ls, Stat, Edit as Edits}
 use Rattle.uf_command.specs.declared.types.Command.{Command}
-use Rattle.uf_command.specs.declared.types.Command.TheVariants.{Init, Add, AddFrom, WriteInput, At, Read, Cat, Get, Export, Import, Same, Adopt, Gen, AddTo, AddFromTo, Pin, Prove}
+use Rattle.uf_command.specs.declared.types.Command.TheVariants.{Init, Add, WriteInput, At, Read, Cat, Get, Export, Import, Same, Adopt, Gen, Pin, Prove}
+use Rattle.uf_command.specs.declared.types.Adding.TheVariants as adding
 use Rattle.uf_command.specs.declared.types.PinAsk.{PinAsk}
 use Rattle.uf_command.specs.declared.types.PinAsk.TheVariants as pins
 use Rattle.uf_command.specs.declared.types.Refusal.{Refusal}
@@ -93,11 +94,12 @@ pin_kinds pins.List = pin_ls_kinds
 -- one row for each command
 abbrev pub nature : Command → Nature
 nature (Init profile) = row NoInput NoHost NoHeadYet MakesHead AtEnd NoStore init_kinds
-nature (Add only_hash) = row ReadsInput NoHost (AHead only_hash) (saves_unless only_hash) AtEnd NoStore add_kinds
-nature (AddFrom recursive only_hash path) =
+nature (Add (adding.Input only_hash)) =
+    row ReadsInput NoHost (AHead only_hash) (saves_unless only_hash) AtEnd NoStore add_kinds
+nature (Add (adding.Host recursive only_hash path)) =
     row NoInput ReadsHost (AHead only_hash) (saves_unless only_hash) AtEnd NoStore add_host_kinds
-nature (AddTo dest) = row ReadsInput NoHost (AHead false) MovesHead AfterHead NoStore place_kinds
-nature (AddFromTo recursive path dest) =
+nature (Add (adding.InputTo dest)) = row ReadsInput NoHost (AHead false) MovesHead AfterHead NoStore place_kinds
+nature (Add (adding.HostTo recursive path dest)) =
     row NoInput ReadsHost (AHead false) MovesHead AfterHead NoStore place_host_kinds
 nature (WriteInput how path) = row ReadsInput NoHost (AHead false) MovesHead AtEnd NoStore write_input_kinds
 nature (At ask path) = row NoInput NoHost (AHead false) (ask_writes ask) AtEnd NoStore tree_kinds

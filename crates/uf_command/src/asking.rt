@@ -13,7 +13,7 @@ ghost use Rattle.uf_command.specs.declared.types.Ask.TheVariants as asks;
 ghost use Rattle.uf_tree.specs.Metas.{is_mtime};
 ghost use Rattle.uf_words.specs.Commands.{IsWithinLimits};
 
-use crate::{Ask, Command, Edit, PinAsk, Refusal};
+use crate::{Adding, Ask, Command, Edit, PinAsk, Refusal};
 use std::alloc::Global;
 use uf_cid::{Block, Cid, Text};
 use uf_message::Mtime;
@@ -121,15 +121,16 @@ fn read_add(
     ensures asked { IsAsked result (add_asked recursive only_hash to_files host_path) }
     ensures profile { IfOk result IsAccepted }
 {
-    match (to_files, host_path) {
-        (None, None) => Ok(Command::Add { only_hash }),
-        (None, Some(path)) => Ok(Command::AddFrom {
+    let adding = match (to_files, host_path) {
+        (None, None) => Adding::Input { only_hash },
+        (None, Some(path)) => Adding::Host {
             recursive,
             only_hash,
             path,
-        }),
-        (Some(dest), host_path) => read_add_to(alloc, recursive, &dest, host_path),
-    }
+        },
+        (Some(dest), host_path) => return read_add_to(alloc, recursive, &dest, host_path),
+    };
+    Ok(Command::Add { adding })
 }
 
 // `add --to-files`.
@@ -142,15 +143,16 @@ fn read_add_to(
     ensures asked { IsAsked result (add_to_asked recursive host_path (path_reads dest.now)) }
     ensures profile { IfOk result IsAccepted }
 {
-    match (Path::parse(alloc, dest.as_str()), host_path) {
-        (Err(why), _) => Err(bad_path(why)),
-        (Ok(dest), None) => Ok(Command::AddTo { dest }),
-        (Ok(dest), Some(path)) => Ok(Command::AddFromTo {
+    let adding = match (Path::parse(alloc, dest.as_str()), host_path) {
+        (Err(why), _) => return Err(bad_path(why)),
+        (Ok(dest), None) => Adding::InputTo { dest },
+        (Ok(dest), Some(path)) => Adding::HostTo {
             recursive,
             path,
             dest,
-        }),
-    }
+        },
+    };
+    Ok(Command::Add { adding })
 }
 
 // `files write` of bytes that stand in the words, or else of the input.

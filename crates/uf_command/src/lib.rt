@@ -29,4 +29,6 @@ pub use requests::{Request, read_request};
 pub use rows::{added_row, name_lines, put_added, put_line, put_number, row_lines, stat_text};
 pub use status::Status;
 pub use telling::{print, tell, tell_end};
-pub use types::{Ask, Command, DagRule, Edit, HostRule, PeerRefusal, PeerRule, PinAsk, Refusal};
+pub use types::{
+    Adding, Ask, Command, DagRule, Edit, HostRule, PeerRefusal, PeerRule, PinAsk, Refusal,
+};

@@ -1,9 +1,32 @@
 //! The nature of commands, where they run.
 ghost use Rattle.std.specs.Prelude.{◌≡◌};
 ghost use Rattle.uf_command.specs.Natures.{calm_fault, only_reads, settled, without_clash as refusal_without_clash};
+ghost use Rattle.uf_command.specs.declared.types.Command.TheVariants as commands;
 
-use crate::{Ask, Command, PinAsk, Refusal};
+use crate::{Adding, Ask, Command, PinAsk, Refusal};
 use uf_store::StoreFault;
+
+impl Adding {
+    // Whether what is added is only hashed.
+    fn only_hashes(&self) -> bool
+        ensures { result ≡ only_reads (commands.Add self.now) }
+    {
+        match self {
+            Adding::Input { only_hash: true }
+            | Adding::Host {
+                only_hash: true,
+                ..
+            } => true,
+            Adding::Input { only_hash: false }
+            | Adding::Host {
+                only_hash: false,
+                ..
+            }
+            | Adding::InputTo { .. }
+            | Adding::HostTo { .. } => false,
+        }
+    }
+}
 
 impl Command {
     /// Whether the command writes nothing to the store.
@@ -11,12 +34,8 @@ impl Command {
         ensures { result ≡ only_reads self.now }
     {
         match self {
-            Command::Add { only_hash: true }
-            | Command::AddFrom {
-                only_hash: true,
-                ..
-            }
-            | Command::At {
+            Command::Add { adding } => adding.only_hashes(),
+            Command::At {
                 ask: Ask::Ls { .. } | Ask::Stat,
                 ..
             }
@@ -29,13 +48,6 @@ impl Command {
             | Command::Pin { ask: PinAsk::List }
             | Command::Prove { .. } => true,
             Command::Init { .. }
-            | Command::Add { only_hash: false }
-            | Command::AddFrom {
-                only_hash: false,
-                ..
-            }
-            | Command::AddTo { .. }
-            | Command::AddFromTo { .. }
             | Command::WriteInput { .. }
             | Command::At {
                 ask: Ask::Edit { .. },

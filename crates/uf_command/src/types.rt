@@ -46,87 +46,62 @@ pub enum PinAsk {
     List,
 }
 
-/// A command, its paths read.
+/// What `add` adds, from where, and to where.
 #[derive(Drop)]
-pub enum Command {
-    /// `init`
-    Init {
-        profile: Profile,
-    },
+pub enum Adding {
     /// `add` of the input; with `-n` it is only hashed.
-    Add {
+    Input {
         only_hash: bool,
     },
     /// `add HOSTPATH`: the same of what the host has at a path, of a folder where `recursive`.
-    AddFrom {
+    Host {
         recursive: bool,
         only_hash: bool,
         path: Text,
     },
     /// `add --to-files DEST`: the input is put as a file where a path of the tree leads.
-    AddTo {
+    InputTo {
         dest: Path,
     },
     /// `add --to-files DEST HOSTPATH`: what the host has at a path is put there.
-    AddFromTo {
+    HostTo {
         recursive: bool,
         path: Text,
         dest: Path,
     },
+}
+
+/// A command, its paths read.
+#[derive(Drop)]
+pub enum Command {
+    /// `init`
+    Init { profile: Profile },
+    /// `add`: the input, or what the host has at a path, is hashed, kept, or put into the tree.
+    Add { adding: Adding },
     /// `files write` without `-x`: the input is written into a file.
-    WriteInput {
-        how: WriteHow,
-        path: Path,
-    },
+    WriteInput { how: WriteHow, path: Path },
     /// `files ls`, `files stat`, and edits: what is asked of the tree at a path.
-    At {
-        ask: Ask,
-        path: Path,
-    },
+    At { ask: Ask, path: Path },
     /// `files read`
-    Read {
-        offset: u64,
-        count: u64,
-        path: Path,
-    },
+    Read { offset: u64, count: u64, path: Path },
     /// `cat`
-    Cat {
-        path: DagPath,
-    },
+    Cat { path: DagPath },
     /// `get`: what is at a path in a DAG is written to a path of the host.
-    Get {
-        path: DagPath,
-        host_path: Text,
-    },
+    Get { path: DagPath, host_path: Text },
     /// `dag export`
-    Export {
-        cid: Cid,
-    },
+    Export { cid: Cid },
     /// `dag import`
     Import,
     /// `dag same`
-    Same {
-        cid: Cid,
-    },
+    Same { cid: Cid },
     /// `files cp /ipfs/..`: what is at a path in a DAG is copied to where a path of the tree leads.
-    Adopt {
-        source: DagPath,
-        dest: Path,
-    },
+    Adopt { source: DagPath, dest: Path },
     /// `gen`: a tree of `n` files is made on a store of its own.
-    Gen {
-        n: u64,
-        seed: u64,
-    },
+    Gen { n: u64, seed: u64 },
     /// `pin add`, `pin rm` and `pin ls`: what is asked of the pins.
-    Pin {
-        ask: PinAsk,
-    },
+    Pin { ask: PinAsk },
     /// `prove`: a CAR of the blocks that decide a path, and of a file its own; with `absent` nothing is there.
-    Prove {
-        absent: bool,
-        path: Path,
-    },
+    Prove { absent: bool, path: Path },
 }
 
 /// The rules by which what is asked of the DAGs of others is refused.

@@ -23,7 +23,8 @@ use Rattle.uf_command.specs.declared.status.Status.TheVariants as status
 use Rattle.uf_command.specs.declared.types.Ask.{Ask}
 use Rattle.uf_command.specs.declared.types.Ask.TheVariants.{Ls, Stat, Edit as Edits}
 use Rattle.uf_command.specs.declared.types.Command.{Command}
-use Rattle.uf_command.specs.declared.types.Command.TheVariants.{Init, Add, AddFrom, WriteInput, At, Read, Cat, Get, Export, Import, Same, Adopt, Gen, AddTo, AddFromTo, Pin, Prove}
+use Rattle.uf_command.specs.declared.types.Command.TheVariants.{Init, Add, WriteInput, At, Read, Cat, Get, Export, Import, Same, Adopt, Gen, Pin, Prove}
+use Rattle.uf_command.specs.declared.types.Adding.TheVariants as adding
 use Rattle.uf_command.specs.declared.types.Edit.TheVariants.{Write}
 use Rattle.uf_command.specs.declared.types.HostRule.TheVariants as rules
 use Rattle.uf_command.specs.declared.types.Refusal.{Refusal}
@@ -269,10 +270,10 @@ module _ (X : List ℕ → List ℕ) (N : List ℕ → ℕ) where
 
   tree-leaves : (command : Command) (o : Outside) (held : Lookup) (p : Profile) (es : Entries) → is_tree (Dir es) ≡ true → LeavesIn (Stands p es) command o held
   tree-leaves (Init q) o held p es tree = refl
-  tree-leaves (Add only_hash) o held p es tree = same-in (Stands p es) (Add only_hash) o held (command-next X N (Add only_hash) o held p es) refl
-  tree-leaves (AddFrom recursive only_hash path) o held p es tree = same-in (Stands p es) (AddFrom recursive only_hash path) o held (command-next X N (AddFrom recursive only_hash path) o held p es) refl
-  tree-leaves (AddTo dest) o held p es tree = add-to-leaves dest o.input p es
-  tree-leaves (AddFromTo recursive path dest) o held p es tree = from-to-leaves recursive path dest o.host p es
+  tree-leaves (Add (adding.Input only_hash)) o held p es tree = same-in (Stands p es) (Add (adding.Input only_hash)) o held (command-next X N (Add (adding.Input only_hash)) o held p es) refl
+  tree-leaves (Add (adding.Host recursive only_hash path)) o held p es tree = same-in (Stands p es) (Add (adding.Host recursive only_hash path)) o held (command-next X N (Add (adding.Host recursive only_hash path)) o held p es) refl
+  tree-leaves (Add (adding.InputTo dest)) o held p es tree = add-to-leaves dest o.input p es
+  tree-leaves (Add (adding.HostTo recursive path dest)) o held p es tree = from-to-leaves recursive path dest o.host p es
   tree-leaves (WriteInput how path) o held p es tree = input-leaves how path.names o.input p es tree
   tree-leaves (At ask path) o held p es tree = ask-leaves ask path o held p es tree
   tree-leaves (Read offset count path) o held p es tree = same-in (Stands p es) (Read offset count path) o held (command-next X N (Read offset count path) o held p es) refl
@@ -289,10 +290,10 @@ module _ (X : List ℕ → List ℕ) (N : List ℕ → ℕ) where
 
   none-leaves : (command : Command) (o : Outside) (held : Lookup) → LeavesIn NoHead command o held
   none-leaves (Init q) o held = refl
-  none-leaves (Add only_hash) o held = same-in NoHead (Add only_hash) o held (none-next X N (Add only_hash) o held) refl
-  none-leaves (AddFrom recursive only_hash path) o held = same-in NoHead (AddFrom recursive only_hash path) o held (none-next X N (AddFrom recursive only_hash path) o held) refl
-  none-leaves (AddTo dest) o held = refl
-  none-leaves (AddFromTo recursive path dest) o held = refl
+  none-leaves (Add (adding.Input only_hash)) o held = same-in NoHead (Add (adding.Input only_hash)) o held (none-next X N (Add (adding.Input only_hash)) o held) refl
+  none-leaves (Add (adding.Host recursive only_hash path)) o held = same-in NoHead (Add (adding.Host recursive only_hash path)) o held (none-next X N (Add (adding.Host recursive only_hash path)) o held) refl
+  none-leaves (Add (adding.InputTo dest)) o held = refl
+  none-leaves (Add (adding.HostTo recursive path dest)) o held = refl
   none-leaves (WriteInput how path) o held = refl
   none-leaves (At ask path) o held = refl
   none-leaves (Read offset count path) o held = refl
@@ -308,10 +309,10 @@ module _ (X : List ℕ → List ℕ) (N : List ℕ → ℕ) where
 
   bad-leaves : (command : Command) (o : Outside) (held : Lookup) → LeavesIn BadHead command o held
   bad-leaves (Init q) o held = refl
-  bad-leaves (Add only_hash) o held = same-in BadHead (Add only_hash) o held (bad-next X N (Add only_hash) o held) refl
-  bad-leaves (AddFrom recursive only_hash path) o held = same-in BadHead (AddFrom recursive only_hash path) o held (bad-next X N (AddFrom recursive only_hash path) o held) refl
-  bad-leaves (AddTo dest) o held = refl
-  bad-leaves (AddFromTo recursive path dest) o held = refl
+  bad-leaves (Add (adding.Input only_hash)) o held = same-in BadHead (Add (adding.Input only_hash)) o held (bad-next X N (Add (adding.Input only_hash)) o held) refl
+  bad-leaves (Add (adding.Host recursive only_hash path)) o held = same-in BadHead (Add (adding.Host recursive only_hash path)) o held (bad-next X N (Add (adding.Host recursive only_hash path)) o held) refl
+  bad-leaves (Add (adding.InputTo dest)) o held = refl
+  bad-leaves (Add (adding.HostTo recursive path dest)) o held = refl
   bad-leaves (WriteInput how path) o held = refl
   bad-leaves (At ask path) o held = refl
   bad-leaves (Read offset count path) o held = refl

@@ -18,7 +18,8 @@ use Rattle.uf_command.specs.declared.status.Status.{Status}
 use Rattle.uf_command.specs.declared.status.Status.TheVariants as status
 use Rattle.uf_command.specs.declared.types.Ask.TheVariants.{Ls, Stat, Edit as Edits}
 use Rattle.uf_command.specs.declared.types.Command.{Command}
-use Rattle.uf_command.specs.declared.types.Command.TheVariants.{Init, Add, AddFrom, WriteInput, At, Read, Cat, Get, Export, Import, Same, Adopt, Gen, AddTo, AddFromTo, Pin, Prove}
+use Rattle.uf_command.specs.declared.types.Command.TheVariants.{Init, Add, WriteInput, At, Read, Cat, Get, Export, Import, Same, Adopt, Gen, Pin, Prove}
+use Rattle.uf_command.specs.declared.types.Adding.TheVariants as adding
 use Rattle.uf_command.specs.declared.types.Refusal.{Refusal}
 use Rattle.uf_store.specs.Contents.{Told, changed, with_sync, with_text}
 use Rattle.uf_store.specs.declared.store.Note.TheVariants.{Head, Pins}
@@ -69,10 +70,10 @@ only-synced X false done a b w = add-head X done a b w
 each : (asked : Result Command Refusal) → Keeps asked ⊎ Takes asked
 each (Err why) = inl (record { none = λ o held. refl; bad = λ o held. refl; tree = λ o held p es. refl; head = λ X done a b w. ap head_in w })
 each (Ok (Init p)) = inr (record { outside = λ o a b t. (λ e. nothing e, λ e. nothing e, λ e. nothing e); host = refl; own = refl })
-each (Ok (Add only_hash)) = inl (record { none = λ o held. refl; bad = λ o held. refl; tree = λ o held p es. refl; head = λ X done a b w. only-synced X only_hash done a b w })
-each (Ok (AddFrom recursive only_hash path)) = inl (record { none = λ o held. refl; bad = λ o held. refl; tree = λ o held p es. refl; head = λ X done a b w. only-synced X only_hash done a b w })
-each (Ok (AddTo dest)) = inr (record { outside = λ o a b t. (λ e. t, λ e. nothing e, λ e. nothing e); host = refl; own = refl })
-each (Ok (AddFromTo recursive path dest)) = inr (record { outside = λ o a b t. (λ e. nothing e, λ e. t, λ e. nothing e); host = refl; own = refl })
+each (Ok (Add (adding.Input only_hash))) = inl (record { none = λ o held. refl; bad = λ o held. refl; tree = λ o held p es. refl; head = λ X done a b w. only-synced X only_hash done a b w })
+each (Ok (Add (adding.Host recursive only_hash path))) = inl (record { none = λ o held. refl; bad = λ o held. refl; tree = λ o held p es. refl; head = λ X done a b w. only-synced X only_hash done a b w })
+each (Ok (Add (adding.InputTo dest))) = inr (record { outside = λ o a b t. (λ e. t, λ e. nothing e, λ e. nothing e); host = refl; own = refl })
+each (Ok (Add (adding.HostTo recursive path dest))) = inr (record { outside = λ o a b t. (λ e. nothing e, λ e. t, λ e. nothing e); host = refl; own = refl })
 each (Ok (WriteInput how path)) = inr (record { outside = λ o a b t. (λ e. t, λ e. nothing e, λ e. nothing e); host = refl; own = refl })
 each (Ok (At (Ls long) path)) = inl (record { none = λ o held. refl; bad = λ o held. refl; tree = λ o held p es. refl; head = λ X done a b w. ap head_in w })
 each (Ok (At Stat path)) = inl (record { none = λ o held. refl; bad = λ o held. refl; tree = λ o held p es. refl; head = λ X done a b w. ap head_in w })
@@ -113,10 +114,10 @@ left-kept given asked k o held s = sym (left-is given asked o held s) ∙ same-i
 takes-of : (asked : Result Command Refusal) (o : Outside) (a b : Around) → HasOutside asked o a b → TakesFrom asked o a b
 takes-of (Err why) o a b h = tt
 takes-of (Ok (Init p)) o a b h = tt
-takes-of (Ok (Add only_hash)) o a b h = tt
-takes-of (Ok (AddFrom recursive only_hash path)) o a b h = tt
-takes-of (Ok (AddTo dest)) o a b h = h.0 refl
-takes-of (Ok (AddFromTo recursive path dest)) o a b h = h.1 refl
+takes-of (Ok (Add (adding.Input only_hash))) o a b h = tt
+takes-of (Ok (Add (adding.Host recursive only_hash path))) o a b h = tt
+takes-of (Ok (Add (adding.InputTo dest))) o a b h = h.0 refl
+takes-of (Ok (Add (adding.HostTo recursive path dest))) o a b h = h.1 refl
 takes-of (Ok (WriteInput how path)) o a b h = h.0 refl
 takes-of (Ok (At ask path)) o a b h = tt
 takes-of (Ok (Read offset count path)) o a b h = tt
@@ -273,7 +274,7 @@ module _ (X : List ℕ → List ℕ) (N : List ℕ → ℕ) where
           (ap (of_command writes_host false) asked) (ap (of_command generates false) asked)
 
   led-afresh : (step : Step) (s : Standing) (p : Profile) (recursive : Bool) (path : List ℕ) → LedTo X N tree_at (told_before step) s → TakesProfile s p → RanWell X N step
-      → step.asked ≡ Ok (AddFrom recursive true path) → step.given ≡ status.Ok → HostIs step.outside.host step.before.around step.now.around
+      → step.asked ≡ Ok (Add (adding.Host recursive true path)) → step.given ≡ status.Ok → HostIs step.outside.host step.before.around step.now.around
       → PrintsLast step path (root-of p (tree_on step.outside.host path))
   led-afresh step s p recursive path l is r asked given host =
       subst (λ t. PrintsLast step path (root-of p t)) (sym (on-host X N p step.outside.host recursive path there.0 there.1))

@@ -6,7 +6,8 @@ use Rattle.std.specs.declared.result.Result.TheVariants.{Ok, Err}
 use Rattle.uf_cid.specs.Blocks.{Lookup}
 use Rattle.uf_host.specs.HostTree.{tree_on_host}
 use Rattle.uf_command.specs.declared.types.Command.{Command}
-use Rattle.uf_command.specs.declared.types.Command.TheVariants.{Init, AddTo, AddFromTo, WriteInput, At, Adopt}
+use Rattle.uf_command.specs.declared.types.Command.TheVariants.{Init, Add, WriteInput, At, Adopt}
+use Rattle.uf_command.specs.declared.types.Adding.TheVariants as adding
 use Rattle.uf_command.specs.declared.types.Ask.TheVariants.{Edit as Edits}
 use Rattle.uf_command.specs.declared.types.Edit.TheVariants.{Write}
 use Rattle.uf_command.specs.declared.types.Refusal.{Refusal}
@@ -37,9 +38,9 @@ module _ (X : List ℕ → List ℕ) (N : List ℕ → ℕ) where
       if nat_le (length outside.input) most_input
       then changed_to es (edited_by X N (Write how outside.input) path.names p es)
       else es
-  entries_replied (AddTo dest) outside held p es =
+  entries_replied (Add (adding.InputTo dest)) outside held p es =
       put_in es (placed X N (added_spot dest None es) (input_tree p outside.input) p es)
-  entries_replied (AddFromTo recursive path dest) outside held p es =
+  entries_replied (Add (adding.HostTo recursive path dest)) outside held p es =
       let there = host_tree path (tree_on_host X N p outside.host recursive path) in
       put_in es (placed X N (added_spot dest (Some path) es) there p es)
   entries_replied (Adopt source dest) outside held p es = changed_to es (adopted X N held source dest p es)

@@ -15,7 +15,8 @@ use Rattle.uf_plain.specs.Edits.{at}
 use Rattle.uf_command.specs.declared.status.Status.TheVariants as status
 use Rattle.uf_command.specs.declared.types.Ask.TheVariants.{Stat}
 use Rattle.uf_command.specs.declared.types.Command.{Command}
-use Rattle.uf_command.specs.declared.types.Command.TheVariants.{AddFrom, AddTo, AddFromTo, WriteInput, At}
+use Rattle.uf_command.specs.declared.types.Command.TheVariants.{Add, WriteInput, At}
+use Rattle.uf_command.specs.declared.types.Adding.TheVariants as adding
 use Rattle.uf_command.specs.declared.types.Refusal.{Refusal}
 use Rattle.uf_store.specs.Calls.{Calm}
 use Rattle.uf_store.specs.Contents.{Contents, Told}
@@ -40,9 +41,9 @@ HostIs tree before now = (before.host.told ≡ Some tree) × Stood before.host.r
 
 -- what a command puts into the tree from outside is so
 abbrev pub TakesFrom : Result Command Refusal → Outside → Around → Around → Type 0
-TakesFrom (Ok (AddTo dest)) outside before now = InputIs outside.input before now
+TakesFrom (Ok (Add (adding.InputTo dest))) outside before now = InputIs outside.input before now
 TakesFrom (Ok (WriteInput how path)) outside before now = InputIs outside.input before now
-TakesFrom (Ok (AddFromTo recursive path dest)) outside before now = HostIs outside.host before now
+TakesFrom (Ok (Add (adding.HostTo recursive path dest))) outside before now = HostIs outside.host before now
 TakesFrom asked outside before now = ⊤
 
 -- a step went well: what is said of what is held and of what it takes from outside is so, neither the store nor the
@@ -81,6 +82,6 @@ module _ (X : List ℕ → List ℕ) (N : List ℕ → ℕ) where
     -- and `add -n` of what a host has at a path, where it is done, prints last the CID of that, by the same profile
     pub afresh : (step : Step) (standing : Standing) (p : Profile) (recursive : Bool) (path : List ℕ)
         → LedTo found (told_before step) standing → TakesProfile standing p → RanWell step
-        → step.asked ≡ Ok (AddFrom recursive true path) → step.given ≡ status.Ok
+        → step.asked ≡ Ok (Add (adding.Host recursive true path)) → step.given ≡ status.Ok
         → HostIs step.outside.host step.before.around step.now.around
         → PrintsLast step path (root p (tree_on step.outside.host path))

@@ -17,7 +17,8 @@ use Rattle.uf_tree.specs.TreePlan.{blocks}
 use Rattle.uf_command.specs.declared.status.Status.TheVariants as status
 use Rattle.uf_command.specs.declared.types.Command.{Command}
 use Rattle.uf_command.specs.Cars.{most_car}
-use Rattle.uf_command.specs.declared.types.Command.TheVariants.{Add, AddFrom, Import}
+use Rattle.uf_command.specs.declared.types.Command.TheVariants.{Add, Import}
+use Rattle.uf_command.specs.declared.types.Adding.TheVariants as adding
 use Rattle.uf_command.specs.declared.types.Refusal.{Refusal}
 use Rattle.uf_top.specs.Added.{EachHolds, KeepsHosted, KeepsInput}
 use Rattle.uf_top.specs.Around.{Around, CountsCanRise, HasOutside, StaysQuiet}
@@ -41,9 +42,9 @@ module _ (X : List ℕ → List ℕ) (N : List ℕ → ℕ) (Says : List ℕ →
   synced : SyncsAfter X before.store.told now.store.told → SyncsAfter X (Some a) (Some b)
   synced h = subst (λ (told : Told). SyncsAfter X (Some a) told) is (subst (λ (told : Told). SyncsAfter X told now.store.told) was h)
 
-  pub input-stays : Runs Says X N (Ok (Add false)) status.Ok before now → KeepsInput X before now a b
+  pub input-stays : Runs Says X N (Ok (Add (adding.Input false))) status.Ok before now → KeepsInput X before now a b
   input-stays runs =
-      let p = printed (Add false) runs.printed.text in
+      let p = printed (Add (adding.Input false)) runs.printed.text in
       record {
         text = p.0;
         row = p.1;
@@ -51,9 +52,9 @@ module _ (X : List ℕ → List ℕ) (N : List ℕ → ℕ) (Says : List ℕ →
         stays = add-stops X a b (file_plan X p.1.profile none p.1.bytes).blocks plain (synced runs.left.writes) p.1.held;
       }
 
-  pub hosted-stays : (recursive : Bool) (path : List ℕ) → Runs Says X N (Ok (AddFrom recursive false path)) status.Ok before now → KeepsHosted X N recursive path before now a b
+  pub hosted-stays : (recursive : Bool) (path : List ℕ) → Runs Says X N (Ok (Add (adding.Host recursive false path))) status.Ok before now → KeepsHosted X N recursive path before now a b
   hosted-stays recursive path runs =
-      let p = printed (AddFrom recursive false path) runs.printed.text in
+      let p = printed (Add (adding.Host recursive false path)) runs.printed.text in
       record {
         text = p.0;
         rows = p.1;

@@ -33,6 +33,7 @@ use Rattle.uf_command.specs.Lines.{added_line}
 use Rattle.uf_top.specs.Answering.{Answers}
 use Rattle.uf_top.specs.Reply.{Reply, add_reply, added, file_cid, unchanged}
 use Rattle.uf_command.specs.declared.types.Command.TheVariants.{Add}
+use Rattle.uf_command.specs.declared.types.Adding.TheVariants as adding
 use Rattle.uf_command.specs.declared.types.Refusal.{Refusal}
 use Rattle.uf_command.specs.declared.types.Refusal.TheVariants as refusal
 use Rattle.uf_top.proofs.Losing.{lost-wants}
@@ -286,7 +287,7 @@ module _ (X : List ℕ → List ℕ) where
   adds-read only_hash told now refusal.Write l m read = tt
   adds-read only_hash told now (refusal.Store fault) l m read = tt
 
-  pub row-ready : (only_hash : Bool) (told held : Told) (p : Profile) (r : Result (List ℕ) Refusal) (l m : streams.Told) → IsRowOf X p held r l m → IsReady told (Add only_hash) r
+  pub row-ready : (only_hash : Bool) (told held : Told) (p : Profile) (r : Result (List ℕ) Refusal) (l m : streams.Told) → IsRowOf X p held r l m → IsReady told (Add (adding.Input only_hash)) r
   row-ready only_hash told held p (Ok text) l m row = tt
   row-ready only_hash told held p (Err (refusal.Rule rule)) l m row = tt
   row-ready only_hash told held p (Err (refusal.Dag rule)) l m row = tt
@@ -321,11 +322,11 @@ by-found None found h = tt
 by-found (Some t) None h = usual-by t.notes.head h
 by-found (Some t) (Some p) h = by-head t.notes.head true p h
 
-unread-reason : (told : Told) (only_hash : Bool) → IfSome told (λ t. IsUnread t.notes.head) → IsReason (Add only_hash) ready.BadHead told
+unread-reason : (told : Told) (only_hash : Bool) → IfSome told (λ t. IsUnread t.notes.head) → IsReason (Add (adding.Input only_hash)) ready.BadHead told
 unread-reason told true h = h
 unread-reason told false h = h
 
-pub read-ready : (only_hash : Bool) (told : Told) (why : Refusal) → IsProfileRead (Err why) told → IsReady {A = List ℕ} told (Add only_hash) (Err why)
+pub read-ready : (only_hash : Bool) (told : Told) (why : Refusal) → IsProfileRead (Err why) told → IsReady {A = List ℕ} told (Add (adding.Input only_hash)) (Err why)
 read-ready only_hash told (refusal.Rule rule) read = tt
 read-ready only_hash told (refusal.Dag rule) read = tt
 read-ready only_hash told (refusal.Car number place) read = tt
@@ -336,7 +337,7 @@ read-ready only_hash told (refusal.BadPath why) read = tt
 read-ready only_hash told refusal.Usage read = tt
 read-ready only_hash told refusal.InputTooLong read = tt
 read-ready only_hash told refusal.BadPins read = tt
-read-ready only_hash told (refusal.Ready why) read = subst (λ why. IsReason (Add only_hash) why told) (sym read.0) (unread-reason told only_hash read.1)
+read-ready only_hash told (refusal.Ready why) read = subst (λ why. IsReason (Add (adding.Input only_hash)) why told) (sym read.0) (unread-reason told only_hash read.1)
 read-ready only_hash told refusal.Read read = tt
 read-ready only_hash told refusal.Write read = tt
 read-ready only_hash told (refusal.Store fault) read = tt

@@ -18,7 +18,8 @@ use Rattle.uf_command.specs.Statuses.{ends_batch, mark}
 use Rattle.uf_command.specs.declared.status.Status.{Status}
 use Rattle.uf_command.specs.declared.status.Status.TheVariants as status
 use Rattle.uf_command.specs.declared.types.Command.{Command}
-use Rattle.uf_command.specs.declared.types.Command.TheVariants.{Init, Add, AddFrom, WriteInput, At, Read, Cat, Get, Export, Import, Same, Adopt, Gen, AddTo, AddFromTo, Pin, Prove}
+use Rattle.uf_command.specs.declared.types.Command.TheVariants.{Init, Add, WriteInput, At, Read, Cat, Get, Export, Import, Same, Adopt, Gen, Pin, Prove}
+use Rattle.uf_command.specs.declared.types.Adding.TheVariants as adding
 use Rattle.uf_command.specs.declared.types.Refusal.{Refusal}
 use Rattle.uf_top.specs.Around.{Around, CountsCanRise, HasOutside, NoneFalls, RoseAt, StaysQuiet}
 use Rattle.uf_top.specs.Batch.{AtLine, Batches, ByMemory, ByReading, EndsSo, Ending, LineCut, LineDone, LineEnds, LineGone, LinePassed, LinesDone, PrintsCut, PrintsWhole, ReadingFails, Said, Scene, SinkSide, TooLong, WithInput, output_of, with_sinks, without_input}
@@ -76,10 +77,10 @@ module _ (X : List ℕ → List ℕ) (N : List ℕ → ℕ) where
   pub next-same : (asked : Result Command Refusal) (w : World) → of_command needs_standing true asked ≡ false → (reply_to X N asked w).next ≡ w.standing
   next-same (Err why) w none = refl
   next-same (Ok (Init p)) w none = absurd cc
-  next-same (Ok (Add only_hash)) w none = absurd cc
-  next-same (Ok (AddFrom recursive only_hash path)) w none = absurd cc
-  next-same (Ok (AddTo dest)) w none = absurd cc
-  next-same (Ok (AddFromTo recursive path dest)) w none = absurd cc
+  next-same (Ok (Add (adding.Input only_hash))) w none = absurd cc
+  next-same (Ok (Add (adding.Host recursive only_hash path))) w none = absurd cc
+  next-same (Ok (Add (adding.InputTo dest))) w none = absurd cc
+  next-same (Ok (Add (adding.HostTo recursive path dest))) w none = absurd cc
   next-same (Ok (WriteInput how path)) w none = absurd cc
   next-same (Ok (At ask path)) w none = absurd cc
   next-same (Ok (Read offset count path)) w none = absurd cc
@@ -102,10 +103,10 @@ module _ (X : List ℕ → List ℕ) (N : List ℕ → ℕ) where
         → StandsIf X N (of_command needs_standing true asked) b t → TellsAs X N b t
     stands-now (Err why) suits writes same stands now = now
     stands-now (Ok (Init p)) suits writes same stands now = now
-    stands-now (Ok (Add only_hash)) suits writes same stands now = now
-    stands-now (Ok (AddFrom recursive only_hash path)) suits writes same stands now = now
-    stands-now (Ok (AddTo dest)) suits writes same stands now = now
-    stands-now (Ok (AddFromTo recursive path dest)) suits writes same stands now = now
+    stands-now (Ok (Add (adding.Input only_hash))) suits writes same stands now = now
+    stands-now (Ok (Add (adding.Host recursive only_hash path))) suits writes same stands now = now
+    stands-now (Ok (Add (adding.InputTo dest))) suits writes same stands now = now
+    stands-now (Ok (Add (adding.HostTo recursive path dest))) suits writes same stands now = now
     stands-now (Ok (WriteInput how path)) suits writes same stands now = now
     stands-now (Ok (At ask path)) suits writes same stands now = now
     stands-now (Ok (Read offset count path)) suits writes same stands now = now

@@ -36,7 +36,8 @@ use Rattle.uf_command.specs.declared.status.Status.TheVariants as status
 use Rattle.uf_command.specs.declared.types.Ask.{Ask}
 use Rattle.uf_command.specs.declared.types.Ask.TheVariants.{Ls, Stat, Edit as Edits}
 use Rattle.uf_command.specs.declared.types.Command.{Command}
-use Rattle.uf_command.specs.declared.types.Command.TheVariants.{Init, Add, AddFrom, WriteInput, At, Read, Cat, Get, Export, Import, Same, Adopt, Gen, AddTo, AddFromTo, Pin, Prove}
+use Rattle.uf_command.specs.declared.types.Command.TheVariants.{Init, Add, WriteInput, At, Read, Cat, Get, Export, Import, Same, Adopt, Gen, Pin, Prove}
+use Rattle.uf_command.specs.declared.types.Adding.TheVariants as adding
 use Rattle.uf_command.specs.declared.types.Refusal.{Refusal}
 use Rattle.uf_store.specs.Seen.{Seen}
 use Rattle.uf_top.specs.Answering.{LeavesNext}
@@ -155,11 +156,11 @@ module _ (X : List ℕ → List ℕ) (N : List ℕ → ℕ) (p : Profile) (es : 
   reply-tree : (host : HostTree) (held : Lookup) (listed : Option (List Cid)) (asked : Result Command Refusal) → Suits asked → IsTreeOf (reply_to X N asked (line_world host (Stands p es) held listed)).next
   reply-tree host held listed (Err why) suits = (p, es, refl)
   reply-tree host held listed (Ok (Init q)) suits = (p, es, refl)
-  reply-tree host held listed (Ok (Add only_hash)) suits = absurd (let e : true ≡ false = suits.0 in cc)
-  reply-tree host held listed (Ok (AddFrom recursive true path)) suits = hosted-tree (λ t. []) path (tree_on_host X N p host recursive path)
-  reply-tree host held listed (Ok (AddFrom recursive false path)) suits = hosted-tree (blocks X N p) path (tree_on_host X N p host recursive path)
-  reply-tree host held listed (Ok (AddTo dest)) suits = absurd (let e : true ≡ false = suits.0 in cc)
-  reply-tree host held listed (Ok (AddFromTo recursive path dest)) suits =
+  reply-tree host held listed (Ok (Add (adding.Input only_hash))) suits = absurd (let e : true ≡ false = suits.0 in cc)
+  reply-tree host held listed (Ok (Add (adding.Host recursive true path))) suits = hosted-tree (λ t. []) path (tree_on_host X N p host recursive path)
+  reply-tree host held listed (Ok (Add (adding.Host recursive false path))) suits = hosted-tree (blocks X N p) path (tree_on_host X N p host recursive path)
+  reply-tree host held listed (Ok (Add (adding.InputTo dest))) suits = absurd (let e : true ≡ false = suits.0 in cc)
+  reply-tree host held listed (Ok (Add (adding.HostTo recursive path dest))) suits =
       settled-tree (host_text X N p path) (placed X N (added_spot dest (Some path) es) (host_tree path (tree_on_host X N p host recursive path)) p es)
   reply-tree host held listed (Ok (WriteInput how path)) suits = absurd (let e : true ≡ false = suits.0 in cc)
   reply-tree host held listed (Ok (At ask path)) suits = ask-tree ask path.names

@@ -32,7 +32,8 @@ use Rattle.uf_tree.specs.declared.profile.Profile.{Profile}
 use Rattle.uf_command.specs.Natures.{SyncsBlocks, command_writes}
 use Rattle.uf_command.specs.Kinds.{add_host_kinds, IsOf, OfBadBlock, OfSections, OfMissing, fault_kind, may_meet, refusal_fault, refusal_kind}
 use Rattle.uf_command.specs.Statuses.{ended, no_memory}
-use Rattle.uf_command.specs.declared.types.Command.TheVariants.{AddFrom}
+use Rattle.uf_command.specs.declared.types.Command.TheVariants.{Add}
+use Rattle.uf_command.specs.declared.types.Adding.TheVariants as adding
 use Rattle.uf_command.specs.declared.types.HostRule.{HostRule}
 use Rattle.uf_command.specs.declared.types.Refusal.{Refusal}
 use Rattle.uf_command.specs.declared.types.Refusal.TheVariants as refusal
@@ -163,22 +164,22 @@ host-finds : (r : Result (List ℕ) Refusal) → IsOf (may_meet add_host_kinds) 
 host-finds (Ok text) h = (λ e. cc, λ e. cc)
 host-finds (Err why) h = kind-finds why (of-none (may_meet add_host_kinds) (refusal_kind why) OfMissing h refl) (of-none (may_meet add_host_kinds) (refusal_kind why) OfBadBlock h refl) (of-none (may_meet add_host_kinds) (refusal_kind why) OfSections h refl)
 
-unread-reason : (told : Told) (recursive only_hash : Bool) (path : List ℕ) → IfSome told (λ t. IsUnread t.notes.head) → IsReason (AddFrom recursive only_hash path) ready.BadHead told
+unread-reason : (told : Told) (recursive only_hash : Bool) (path : List ℕ) → IfSome told (λ t. IsUnread t.notes.head) → IsReason (Add (adding.Host recursive only_hash path)) ready.BadHead told
 unread-reason told recursive true path h = h
 unread-reason told recursive false path h = h
 
-head-ready : (told : Told) (recursive only_hash : Bool) (path : List ℕ) (why : Refusal) → HeadEnd told why → IsReady {A = List ℕ} told (AddFrom recursive only_hash path) (Err why)
-head-ready told recursive only_hash path why (Unread e h) = subst (λ w. IsReady {A = List ℕ} told (AddFrom recursive only_hash path) (Err w)) (sym e) (unread-reason told recursive only_hash path h)
-head-ready told recursive only_hash path why (OfStore f e saving) = subst (λ w. IsReady {A = List ℕ} told (AddFrom recursive only_hash path) (Err w)) (sym e) tt
+head-ready : (told : Told) (recursive only_hash : Bool) (path : List ℕ) (why : Refusal) → HeadEnd told why → IsReady {A = List ℕ} told (Add (adding.Host recursive only_hash path)) (Err why)
+head-ready told recursive only_hash path why (Unread e h) = subst (λ w. IsReady {A = List ℕ} told (Add (adding.Host recursive only_hash path)) (Err w)) (sym e) (unread-reason told recursive only_hash path h)
+head-ready told recursive only_hash path why (OfStore f e saving) = subst (λ w. IsReady {A = List ℕ} told (Add (adding.Host recursive only_hash path)) (Err w)) (sym e) tt
 
 -- where nothing was written, one that is refused has written what it may
-from-same : (X : List ℕ → List ℕ) (recursive only_hash : Bool) (path : List ℕ) (a b : Told) → b ≡ a → WritesAs X (command_writes (AddFrom recursive only_hash path)) false a b
+from-same : (X : List ℕ → List ℕ) (recursive only_hash : Bool) (path : List ℕ) (a b : Told) → b ≡ a → WritesAs X (command_writes (Add (adding.Host recursive only_hash path))) false a b
 from-same X recursive true path a b e = e
 from-same X recursive false path a b e = record { between = a; saves = SavesOnly-refl X a; last = Same e }
 
 from-touch : (recursive only_hash : Bool) (path bytes : List ℕ) (X : List ℕ → List ℕ) (N : List ℕ → ℕ) (rows : ℕ → ℕ) (p : Profile) (es : Entries) (t0 : ℕ)
-    → IfSome (command_touches X N rows bytes (AddFrom recursive only_hash path) p es) (λ most. t0 ≤ t0 + most)
-from-touch recursive only_hash path bytes X N rows p es t0 = no-touch (command_touches X N rows bytes (AddFrom recursive only_hash path) p es) t0
+    → IfSome (command_touches X N rows bytes (Add (adding.Host recursive only_hash path)) p es) (λ most. t0 ≤ t0 + most)
+from-touch recursive only_hash path bytes X N rows p es t0 = no-touch (command_touches X N rows bytes (Add (adding.Host recursive only_hash path)) p es) t0
 
 -- ---- by what the host tells
 
@@ -188,15 +189,15 @@ module _ (X : List ℕ → List ℕ) (N : List ℕ → ℕ) where
   text-kinds p held host recursive path (Err why) h = end-kind path _ why (end-of path _ why h)
 
   text-ready : (p : Profile) (held : Told) (host : HostTold) (recursive only_hash : Bool) (path : List ℕ) (told : Told) (r : Result (List ℕ) Refusal) → MakesHostText X N p held host recursive path r
-      → IsReady told (AddFrom recursive only_hash path) r
+      → IsReady told (Add (adding.Host recursive only_hash path)) r
   text-ready p held host recursive only_hash path told (Ok text) h = tt
   text-ready p held host recursive only_hash path told (Err why) h = by (end-of path _ why h)
     where
-      by : {Said : HostFault → Type 0} → HostEnd path Said why → IsReady {A = List ℕ} told (AddFrom recursive only_hash path) (Err why)
-      by (ByRead e) = subst (λ w. IsReady {A = List ℕ} told (AddFrom recursive only_hash path) (Err w)) (sym e) tt
-      by (ByStore f e saving) = subst (λ w. IsReady {A = List ℕ} told (AddFrom recursive only_hash path) (Err w)) (sym e) tt
-      by (ByHost rule e is) = subst (λ w. IsReady {A = List ℕ} told (AddFrom recursive only_hash path) (Err w)) (sym e) tt
-      by (ByRule rule e is) = subst (λ w. IsReady {A = List ℕ} told (AddFrom recursive only_hash path) (Err w)) (sym e) tt
+      by : {Said : HostFault → Type 0} → HostEnd path Said why → IsReady {A = List ℕ} told (Add (adding.Host recursive only_hash path)) (Err why)
+      by (ByRead e) = subst (λ w. IsReady {A = List ℕ} told (Add (adding.Host recursive only_hash path)) (Err w)) (sym e) tt
+      by (ByStore f e saving) = subst (λ w. IsReady {A = List ℕ} told (Add (adding.Host recursive only_hash path)) (Err w)) (sym e) tt
+      by (ByHost rule e is) = subst (λ w. IsReady {A = List ℕ} told (Add (adding.Host recursive only_hash path)) (Err w)) (sym e) tt
+      by (ByRule rule e is) = subst (λ w. IsReady {A = List ℕ} told (Add (adding.Host recursive only_hash path)) (Err w)) (sym e) tt
 
   text-rows : (p : Profile) (held told now : Told) (host : HostTold) (recursive only_hash : Bool) (path : List ℕ) (r : Result (List ℕ) Refusal) → ((list : List Held) → Holds held list → HoldsUnless only_hash now list)
       → IfSome told (λ t. AddsBy only_hash t.notes.head p) → MakesHostText X N p held host recursive path r → IfOk r (λ text. AreHostRows X N told now host recursive only_hash path text)
@@ -307,7 +308,7 @@ module _ (X : List ℕ → List ℕ) (N : List ℕ → ℕ) where
   module _ (good : IsHash X) (recursive : Bool) (path : List ℕ) (a m : Seen) (told : m.told ≡ a.told) (side : HostSide) (l : streams.Told) (i : ℕ) (h : streams.Told) (w : ℕ) where
     -- the Head isn't read, or not in memory
     pub from-unread : (only_hash : Bool) (t0 : ℕ) (why : Refusal) → IsProfileRead (Err why) a.told → ShownIn {A = Option Profile} X (Err why) a m
-        → Makes X N (AddFrom recursive only_hash path) (Err why) (around a l i h w t0 side) (around m l i h w t0 side)
+        → Makes X N (Add (adding.Host recursive only_hash path)) (Err why) (around a l i h w t0 side) (around m l i h w t0 side)
     from-unread only_hash t0 why read shown =
         let end = head-end a.told why read in
         record {
@@ -329,7 +330,7 @@ module _ (X : List ℕ → List ℕ) (N : List ℕ → ℕ) where
 
     -- there is none, where one is needed
     pub from-no-head : (t0 : ℕ) → IfSome a.told (λ t. t.notes.head ≡ None) → StaysCalm a m
-        → Makes X N (AddFrom recursive false path) (Err (refusal.Ready ready.NoHead)) (around a l i h w t0 side) (around m l i h w t0 side)
+        → Makes X N (Add (adding.Host recursive false path)) (Err (refusal.Ready ready.NoHead)) (around a l i h w t0 side) (around m l i h w t0 side)
     from-no-head t0 none calm = record {
       answers = λ world stands outside calm2. absent-answers good recursive path world.host world.standing a.told m.told stands (stands-same X N a.told m.told world.standing told stands) none;
       lost = λ p es rows held outside named given calm2. absurd (names-there X N a.told p es named.names none);
@@ -349,7 +350,7 @@ module _ (X : List ℕ → List ℕ) (N : List ℕ → ℕ) where
     module _ (calm : StaysCalm a m) (r : Result (List ℕ) Refusal) (side2 : HostSide) (reads : OnlyReadsHost (is_read r) side side2) where
       -- what the host has is added by the profile of the Head
       pub is-kept : (p : Profile) (b : Seen) (t0 t1 : ℕ) → IfSome a.told (λ t. IsProfileIn (Some p) t.notes.head) → MakesHostText X N p b.told side.told recursive path r → ShownIn X r m b → KeepsGood X m.told b.told
-          → WritesAs X SyncsBlocks (is_ok r) m.told b.told → Makes X N (AddFrom recursive false path) r (around a l i h w t0 side) (around b l i h w t1 side2)
+          → WritesAs X SyncsBlocks (is_ok r) m.told b.told → Makes X N (Add (adding.Host recursive false path)) r (around a l i h w t0 side) (around b l i h w t1 side2)
       is-kept p b t0 t1 says text shown kept writes =
           let keeps = subst (λ t. KeepsGood X t b.told) told kept in
           let written = subst (λ t. WritesAs X SyncsBlocks (is_ok r) t b.told) told writes in
@@ -383,7 +384,7 @@ module _ (X : List ℕ → List ℕ) (N : List ℕ → ℕ) where
 
       -- its rows are made, and nothing is kept
       pub is-only-hashed : (found : Option Profile) (p : Profile) (t0 : ℕ) → p ≡ or_usual found → IfSome a.told (λ t. IsProfileIn found t.notes.head) → MakesHostText X N p None side.told recursive path r → OnlyWants r
-          → Makes X N (AddFrom recursive true path) r (around a l i h w t0 side) (around m l i h w t0 side2)
+          → Makes X N (Add (adding.Host recursive true path)) r (around a l i h w t0 side) (around m l i h w t0 side2)
       is-only-hashed found p t0 is says text wants =
           let shown = wants-shown X r a m wants calm in
           let kinds = text-kinds p None side.told recursive path r text in

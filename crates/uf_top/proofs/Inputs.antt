@@ -21,6 +21,7 @@ use Rattle.uf_command.specs.Natures.{SyncsBlocks, command_writes}
 use Rattle.uf_command.specs.Kinds.{refusal_fault}
 use Rattle.uf_top.specs.Reply.{add_reply}
 use Rattle.uf_command.specs.declared.types.Command.TheVariants.{Add}
+use Rattle.uf_command.specs.declared.types.Adding.TheVariants as adding
 use Rattle.uf_command.specs.declared.types.Refusal.{Refusal}
 use Rattle.uf_command.specs.declared.types.Refusal.TheVariants as refusal
 use Rattle.uf_top.specs.Around.{HostSide, around}
@@ -38,7 +39,7 @@ use Rattle.uf_top.proofs.Shows.{add-blames, counts-still, no-rows, no-touch, sho
 use Rattle.uf_top.proofs.Standings.{names-there, stands-kept, stands-same, tells-held, tells-none}
 
 -- where nothing was written, a refused `add` has written what it may
-add-same : (X : List ℕ → List ℕ) (only_hash : Bool) (a b : Told) → b ≡ a → WritesAs X (command_writes (Add only_hash)) false a b
+add-same : (X : List ℕ → List ℕ) (only_hash : Bool) (a b : Told) → b ≡ a → WritesAs X (command_writes (Add (adding.Input only_hash))) false a b
 add-same X true a b e = e
 add-same X false a b e = record { between = a; saves = SavesOnly-refl X a; last = Same e }
 
@@ -57,7 +58,7 @@ synced-writes X (Err why) a m b saves synced failed = record { between = m; save
 
 module _ (X : List ℕ → List ℕ) (hash : IsHash X) (N : List ℕ → ℕ) (a m : Seen) (told : m.told ≡ a.told) (l : streams.Told) (i : ℕ) (h : streams.Told) (w t0 : ℕ) (side : HostSide) where
   -- the Head isn't read, or not in memory
-  pub head-unread : (only_hash : Bool) (why : Refusal) → IsProfileRead (Err why) a.told → ShownIn {A = Option Profile} X (Err why) a m → Makes X N (Add only_hash) (Err why) (around a l i h w t0 side) (around m l i h w t0 side)
+  pub head-unread : (only_hash : Bool) (why : Refusal) → IsProfileRead (Err why) a.told → ShownIn {A = Option Profile} X (Err why) a m → Makes X N (Add (adding.Input only_hash)) (Err why) (around a l i h w t0 side) (around m l i h w t0 side)
   head-unread only_hash why read shown = record {
     answers = λ world stands input calm. let s = world.standing in let bytes = world.input in head-refused X hash N s only_hash bytes why a m stands (stands-same X N a.told m.told s told stands) read shown calm.faults calm.clashes;
     lost = λ p es heights held outside named input calm. let bytes = outside.input in
@@ -69,14 +70,14 @@ module _ (X : List ℕ → List ℕ) (hash : IsHash X) (N : List ℕ → ℕ) (a
     host = refl;
     rows = tt;
     cause = shown-any X (IsBadIn X N a.told m.told) (Err why) a m shown;
-    touches = λ p es bytes rows named input heights calm. no-touch (command_touches X N rows bytes (Add only_hash) p es) t0;
+    touches = λ p es bytes rows named input heights calm. no-touch (command_touches X N rows bytes (Add (adding.Input only_hash)) p es) t0;
     whole = λ s stands calm. add-whole (Err why) (read-kinds why a.told read);
     touched = λ blames. absurd (add-blames (Err why) (read-kinds why a.told read) blames);
     leaves = record { good = KeepsGood-same X a.told m.told told; head = ap head_in told; writes = add-same X only_hash a.told m.told told; idle = λ p es bytes stands calm same. told };
   }
 
   -- there is none, where one is needed
-  pub no-head : IfSome a.told (λ t. t.notes.head ≡ None) → StaysCalm a m → Makes X N (Add false) (Err (refusal.Ready ready.NoHead)) (around a l i h w t0 side) (around m l i h w t0 side)
+  pub no-head : IfSome a.told (λ t. t.notes.head ≡ None) → StaysCalm a m → Makes X N (Add (adding.Input false)) (Err (refusal.Ready ready.NoHead)) (around a l i h w t0 side) (around m l i h w t0 side)
   no-head none calm = record {
     answers = λ world stands input calm2. let s = world.standing in let bytes = world.input in head-absent X N s bytes a.told m.told stands (stands-same X N a.told m.told s told stands) none;
     lost = λ p es heights held outside named input calm2. let bytes = outside.input in absurd (names-there X N a.told p es named.names none);
@@ -96,7 +97,7 @@ module _ (X : List ℕ → List ℕ) (hash : IsHash X) (N : List ℕ → ℕ) (a
   module _ (calm : StaysCalm a m) (r : Result (List ℕ) Refusal) (k : streams.Told) (j : ℕ) (counts : Counts (is_read r) i j) where
     -- the input is added by the profile of the Head
     pub is-added : (p : Profile) (b : Seen) (t1 : ℕ) → IfSome a.told (λ t. IsProfileIn (Some p) t.notes.head) → IsRowOf X p b.told r l k → ShownIn X r m b → KeepsGood X m.told b.told
-        → WritesAs X SyncsBlocks (is_ok r) m.told b.told → Makes X N (Add false) r (around a l i h w t0 side) (around b k j h w t1 side)
+        → WritesAs X SyncsBlocks (is_ok r) m.told b.told → Makes X N (Add (adding.Input false)) r (around a l i h w t0 side) (around b k j h w t1 side)
     is-added p b t1 says row shown kept writes =
         let good = subst (λ t. KeepsGood X t b.told) told kept in
         let written = subst (λ t. WritesAs X SyncsBlocks (is_ok r) t b.told) told writes in
@@ -128,7 +129,7 @@ module _ (X : List ℕ → List ℕ) (hash : IsHash X) (N : List ℕ → ℕ) (a
         }
 
     -- the input's row is made, and nothing is kept
-    pub is-hashed : (found : Option Profile) (p : Profile) → p ≡ or_usual found → IfSome a.told (λ t. IsProfileIn found t.notes.head) → IsRowOf X p None r l k → OnlyWants r → Makes X N (Add true) r (around a l i h w t0 side) (around m k j h w t0 side)
+    pub is-hashed : (found : Option Profile) (p : Profile) → p ≡ or_usual found → IfSome a.told (λ t. IsProfileIn found t.notes.head) → IsRowOf X p None r l k → OnlyWants r → Makes X N (Add (adding.Input true)) r (around a l i h w t0 side) (around m k j h w t0 side)
     is-hashed found p is says row wants =
         let shown = wants-shown X r a m wants calm in
         record {

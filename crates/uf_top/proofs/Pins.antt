@@ -48,7 +48,8 @@ use Rattle.uf_command.specs.declared.status.Status.{Status}
 use Rattle.uf_command.specs.declared.status.Status.TheVariants as status
 use Rattle.uf_command.specs.declared.types.Ask.TheVariants.{Ls, Stat, Edit as Edits}
 use Rattle.uf_command.specs.declared.types.Command.{Command}
-use Rattle.uf_command.specs.declared.types.Command.TheVariants.{Init, Add, AddFrom, WriteInput, At, Read, Cat, Get, Export, Import, Same, Adopt, Gen, AddTo, AddFromTo, Pin, Prove}
+use Rattle.uf_command.specs.declared.types.Command.TheVariants.{Init, Add, WriteInput, At, Read, Cat, Get, Export, Import, Same, Adopt, Gen, Pin, Prove}
+use Rattle.uf_command.specs.declared.types.Adding.TheVariants as adding
 use Rattle.uf_command.specs.declared.types.DagRule.{DagRule}
 use Rattle.uf_command.specs.declared.types.DagRule.TheVariants as rule
 use Rattle.uf_command.specs.declared.types.PinAsk.{PinAsk}
@@ -165,12 +166,12 @@ module _ (X : List ℕ → List ℕ) where
 
   pub pins-after : (command : Command) (done : Result (Unit {0}) Refusal) (a b : Told) → PinsFor command done a b → WritesAs X (command_writes command) (is_done (ended done)) a b → PinsAfter (Ok command) (ended done) a b
   pins-after (Init p) done a b p0 h = shape-pins MakesHead (is_done (ended done)) a b tt h
-  pins-after (Add true) done a b p0 h = shape-pins NoWrites (is_done (ended done)) a b tt h
-  pins-after (Add false) done a b p0 h = shape-pins SyncsBlocks (is_done (ended done)) a b tt h
-  pins-after (AddFrom recursive true path) done a b p0 h = shape-pins NoWrites (is_done (ended done)) a b tt h
-  pins-after (AddFrom recursive false path) done a b p0 h = shape-pins SyncsBlocks (is_done (ended done)) a b tt h
-  pins-after (AddTo dest) done a b p0 h = shape-pins MovesHead (is_done (ended done)) a b tt h
-  pins-after (AddFromTo recursive path dest) done a b p0 h = shape-pins MovesHead (is_done (ended done)) a b tt h
+  pins-after (Add (adding.Input true)) done a b p0 h = shape-pins NoWrites (is_done (ended done)) a b tt h
+  pins-after (Add (adding.Input false)) done a b p0 h = shape-pins SyncsBlocks (is_done (ended done)) a b tt h
+  pins-after (Add (adding.Host recursive true path)) done a b p0 h = shape-pins NoWrites (is_done (ended done)) a b tt h
+  pins-after (Add (adding.Host recursive false path)) done a b p0 h = shape-pins SyncsBlocks (is_done (ended done)) a b tt h
+  pins-after (Add (adding.InputTo dest)) done a b p0 h = shape-pins MovesHead (is_done (ended done)) a b tt h
+  pins-after (Add (adding.HostTo recursive path dest)) done a b p0 h = shape-pins MovesHead (is_done (ended done)) a b tt h
   pins-after (WriteInput how path) done a b p0 h = shape-pins MovesHead (is_done (ended done)) a b tt h
   pins-after (At (Ls long) path) done a b p0 h = shape-pins NoWrites (is_done (ended done)) a b tt h
   pins-after (At Stat path) done a b p0 h = shape-pins NoWrites (is_done (ended done)) a b tt h

@@ -52,7 +52,8 @@ use Rattle.uf_command.specs.Lines.{added_line}
 use Rattle.uf_command.specs.Statuses.{ended, no_memory, status_of}
 use Rattle.uf_command.specs.declared.status.Status.TheVariants as status
 use Rattle.uf_command.specs.declared.types.Command.{Command}
-use Rattle.uf_command.specs.declared.types.Command.TheVariants.{AddFromTo, AddTo}
+use Rattle.uf_command.specs.declared.types.Command.TheVariants.{Add}
+use Rattle.uf_command.specs.declared.types.Adding.TheVariants as adding
 use Rattle.uf_command.specs.declared.types.HostRule.{HostRule}
 use Rattle.uf_command.specs.declared.types.HostRule.TheVariants as rules
 use Rattle.uf_command.specs.declared.types.Refusal.{Refusal}
@@ -664,7 +665,7 @@ module _ (X : List ℕ → List ℕ) (N : List ℕ → ℕ) where
 
   pub of-input : (dest : Path) (l m : streams.Told) (i j : ℕ) (held : streams.Told) (w : ℕ) (side : HostSide) (done : Result (List ℕ) Refusal) (a d : Seen) (t0 t2 : ℕ)
       → Ended X N dest None (λ p. SaysInput p l) (input_row X N) done a d t0 t2 → Counts (is_read done) i j
-      → Makes X N (AddTo dest) done (around a l i held w t0 side) (around d m j held w t2 side)
+      → Makes X N (Add (adding.InputTo dest)) done (around a l i held w t0 side) (around d m j held w t2 side)
   of-input dest l m i j held w side done a d t0 t2 e counts = record {
     answers = λ world stands input calm.
         answers-of X N dest None (λ p. SaysInput p l) (input_row X N) done a d t0 t2 (λ p. input_tree p world.input) e calm (not-read (is_read done) i j counts (input.0 refl).1)
@@ -673,7 +674,7 @@ module _ (X : List ℕ → List ℕ) (N : List ℕ → ℕ) where
         let o = e.over p es named calm (not-read (is_read done) i j counts (input.0 refl).1) in
         subst (λ g. AnswersOver X N a.told d.told p es (root_of X N p (Dir es) ++ blocks X N p (Dir es)) (settled X N (input_row X N p) p es (placed X N (added_spot dest None es) g p es)) done) (input-said p l outside.input o.given (input.0 refl).0 o.said) o.ends;
     kinds = e.kinds;
-    ready = is-ready (AddTo dest) a.told done (λ why h. h) e.ready;
+    ready = is-ready (Add (adding.InputTo dest)) a.told done (λ why h. h) e.ready;
     adds = ok-more (PrintsFor X N dest None (λ p. SaysInput p l) (input_row X N) a.told d.told) (IsRow X a.told d.told false l) done (input-row dest l a.told d.told) e.rows;
     reads = counts;
     host = refl;
@@ -687,7 +688,7 @@ module _ (X : List ℕ → List ℕ) (N : List ℕ → ℕ) where
 
   pub of-host : (recursive : Bool) (path : List ℕ) (dest : Path) (l : streams.Told) (i : ℕ) (held : streams.Told) (w : ℕ) (side side2 : HostSide) (done : Result (List ℕ) Refusal) (a d : Seen) (t0 t2 : ℕ)
       → Ended X N dest (Some path) (λ p. SaysHost X N p side.told recursive path) (λ p. host_text X N p path) done a d t0 t2 → OnlyReadsHost (is_read done) side side2
-      → Makes X N (AddFromTo recursive path dest) done (around a l i held w t0 side) (around d l i held w t2 side2)
+      → Makes X N (Add (adding.HostTo recursive path dest)) done (around a l i held w t0 side) (around d l i held w t2 side2)
   of-host recursive path dest l i held w side side2 done a d t0 t2 e only = record {
     answers = λ world stands input calm.
         answers-of X N dest (Some path) (λ p. SaysHost X N p side.told recursive path) (λ p. host_text X N p path) done a d t0 t2 (λ p. host_tree path (tree_on_host X N p world.host recursive path)) e calm
@@ -698,7 +699,7 @@ module _ (X : List ℕ → List ℕ) (N : List ℕ → ℕ) where
         subst (λ g. AnswersOver X N a.told d.told p es (root_of X N p (Dir es) ++ blocks X N p (Dir es)) (settled X N (host_text X N p path) p es (placed X N (added_spot dest (Some path) es) g p es)) done)
         (host-said path side.told outside.host (λ tree. tree_on_host X N p tree recursive path) o.given (input.1 refl).0 o.said) o.ends;
     kinds = e.kinds;
-    ready = is-ready (AddFromTo recursive path dest) a.told done (λ why h. h) e.ready;
+    ready = is-ready (Add (adding.HostTo recursive path dest)) a.told done (λ why h. h) e.ready;
     adds = tt;
     reads = counts-still i;
     host = only;

@@ -24,7 +24,8 @@ use Rattle.uf_command.specs.Statuses.{ended, no_memory, status_of}
 use Rattle.uf_command.specs.declared.status.Status.{Status}
 use Rattle.uf_command.specs.declared.status.Status.TheVariants as status
 use Rattle.uf_command.specs.declared.types.Command.{Command}
-use Rattle.uf_command.specs.declared.types.Command.TheVariants.{Init, Add, AddFrom, WriteInput, At, Read, Cat, Get, Export, Import, Same, Adopt, Gen, AddTo, AddFromTo, Pin, Prove}
+use Rattle.uf_command.specs.declared.types.Command.TheVariants.{Init, Add, WriteInput, At, Read, Cat, Get, Export, Import, Same, Adopt, Gen, Pin, Prove}
+use Rattle.uf_command.specs.declared.types.Adding.TheVariants as adding
 use Rattle.uf_command.specs.declared.types.PinAsk.TheVariants as pins
 use Rattle.uf_command.specs.declared.types.HostRule.{HostRule}
 use Rattle.uf_command.specs.declared.types.Refusal.{Refusal}
@@ -47,7 +48,7 @@ use Rattle.uf_top.specs.Working.{Does, Makes, SaysText}
 
 pub no-write : (command : Command) → may_meet (kinds_of command) OfWrite ≡ true → ⊥
 no-write (Init p) h = cc
-no-write (Add only_hash) h = cc
+no-write (Add (adding.Input only_hash)) h = cc
 no-write (WriteInput how path) h = cc
 no-write (At ask path) h = cc
 no-write (Read offset count path) h = cc
@@ -62,17 +63,17 @@ no-write (Gen n seed) h = cc
 no-write (Pin (pins.Add cid)) h = cc
 no-write (Pin (pins.Remove cid)) h = cc
 no-write (Pin pins.List) h = cc
-no-write (AddTo dest) h = cc
-no-write (AddFromTo recursive path dest) h = cc
-no-write (AddFrom recursive only_hash path) h = cc
+no-write (Add (adding.InputTo dest)) h = cc
+no-write (Add (adding.HostTo recursive path dest)) h = cc
+no-write (Add (adding.Host recursive only_hash path)) h = cc
 
 -- such a command needs what the store stands for
 alone-needs : (command : Command) → natures.reads_tree_alone command ≡ true → needs_standing command ≡ true
 alone-needs (Init p) h = refl
-alone-needs (Add only_hash) h = refl
-alone-needs (AddTo dest) h = refl
-alone-needs (AddFromTo recursive path dest) h = refl
-alone-needs (AddFrom recursive only_hash path) h = refl
+alone-needs (Add (adding.Input only_hash)) h = refl
+alone-needs (Add (adding.InputTo dest)) h = refl
+alone-needs (Add (adding.HostTo recursive path dest)) h = refl
+alone-needs (Add (adding.Host recursive only_hash path)) h = refl
 alone-needs (WriteInput how path) h = refl
 alone-needs (At ask path) h = refl
 alone-needs (Read offset count path) h = refl
@@ -89,10 +90,10 @@ alone-needs (Pin ask) h = absurd cc
 -- it only reads the host, whose files and folders stay
 alone-reads : (command : Command) → natures.reads_tree_alone command ≡ true → writes_host command ≡ false
 alone-reads (Init p) h = refl
-alone-reads (Add only_hash) h = refl
-alone-reads (AddTo dest) h = refl
-alone-reads (AddFromTo recursive path dest) h = refl
-alone-reads (AddFrom recursive only_hash path) h = refl
+alone-reads (Add (adding.Input only_hash)) h = refl
+alone-reads (Add (adding.InputTo dest)) h = refl
+alone-reads (Add (adding.HostTo recursive path dest)) h = refl
+alone-reads (Add (adding.Host recursive only_hash path)) h = refl
 alone-reads (WriteInput how path) h = refl
 alone-reads (At ask path) h = refl
 alone-reads (Read offset count path) h = refl
@@ -108,10 +109,7 @@ alone-reads (Pin ask) h = absurd cc
 
 alone-stays : (command : Command) → natures.reads_tree_alone command ≡ true → (world : World) → host_after (Ok command) world ≡ world.host
 alone-stays (Init p) h world = refl
-alone-stays (Add only_hash) h world = refl
-alone-stays (AddTo dest) h world = refl
-alone-stays (AddFromTo recursive path dest) h world = refl
-alone-stays (AddFrom recursive only_hash path) h world = refl
+alone-stays (Add what) h world = refl
 alone-stays (WriteInput how path) h world = refl
 alone-stays (At ask path) h world = refl
 alone-stays (Read offset count path) h world = refl
@@ -128,10 +126,7 @@ alone-stays (Pin ask) h world = absurd cc
 -- and gets nothing
 alone-gets : (command : Command) → natures.reads_tree_alone command ≡ true → (given : Status) (told : Told) (host now : HostTold) → GetsFor command given told host now
 alone-gets (Init p) h given told host now = tt
-alone-gets (Add only_hash) h given told host now = tt
-alone-gets (AddTo dest) h given told host now = tt
-alone-gets (AddFromTo recursive path dest) h given told host now = tt
-alone-gets (AddFrom recursive only_hash path) h given told host now = tt
+alone-gets (Add what) h given told host now = tt
 alone-gets (WriteInput how path) h given told host now = tt
 alone-gets (At ask path) h given told host now = tt
 alone-gets (Read offset count path) h given told host now = tt
@@ -148,10 +143,7 @@ alone-gets (Pin ask) h given told host now = absurd cc
 -- and is none on pins
 alone-pins : (command : Command) → natures.reads_tree_alone command ≡ true → (done : Result (Unit {0}) Refusal) (told now : Told) → PinsFor command done told now
 alone-pins (Init p) h done told now = tt
-alone-pins (Add only_hash) h done told now = tt
-alone-pins (AddTo dest) h done told now = tt
-alone-pins (AddFromTo recursive path dest) h done told now = tt
-alone-pins (AddFrom recursive only_hash path) h done told now = tt
+alone-pins (Add what) h done told now = tt
 alone-pins (WriteInput how path) h done told now = tt
 alone-pins (At ask path) h done told now = tt
 alone-pins (Read offset count path) h done told now = tt
@@ -273,15 +265,15 @@ some-stays (x ∷ text) false a b some stays = stays
 module _ (X : List ℕ → List ℕ) (N : List ℕ → ℕ) where
   text-of : (command : Command) → natures.reads_tree_alone command ≡ true → (told now : Told) (host : HostTold) (l m : streams.Told) (text : List ℕ) → AddsFor X told now (Ok command) (Ok text) l m → IsHostedText X N told now host command text → IsTextOf X N told now host command l text
   text-of (Init p) alone told now host l m text h rows = tt
-  text-of (Add only_hash) alone told now host l m text h rows = h
+  text-of (Add (adding.Input only_hash)) alone told now host l m text h rows = h
   text-of (WriteInput how path) alone told now host l m text h rows = tt
   text-of (At ask path) alone told now host l m text h rows = tt
   text-of (Read offset count path) alone told now host l m text h rows = tt
   text-of (Prove absent path) alone told now host l m text h rows = tt
   text-of (Cat path) alone told now host l m text h rows = tt
-  text-of (AddTo dest) alone told now host l m text h rows = h
-  text-of (AddFromTo recursive path dest) alone told now host l m text h rows = rows
-  text-of (AddFrom recursive only_hash path) alone told now host l m text h rows = rows
+  text-of (Add (adding.InputTo dest)) alone told now host l m text h rows = h
+  text-of (Add (adding.HostTo recursive path dest)) alone told now host l m text h rows = rows
+  text-of (Add (adding.Host recursive only_hash path)) alone told now host l m text h rows = rows
   text-of (Get path host_path) alone told now host l m text h rows = absurd cc
   text-of (Export cid) alone told now host l m text h rows = tt
   text-of Import alone told now host l m text h rows = absurd cc
@@ -293,7 +285,7 @@ module _ (X : List ℕ → List ℕ) (N : List ℕ → ℕ) where
   rule-in : (command : Command) (told now : Told) (l m : streams.Told) (rule : Rule) → may_meet (kinds_of command) (refusal_kind (refusal.Rule rule)) ≡ true → AddsFor X told now (Ok command) (Err (refusal.Rule rule)) l m
       → RuleOf command (refusal.Rule rule) told l m
   rule-in (Init p) told now l m rule h adds = absurd cc
-  rule-in (Add only_hash) told now l m rule h adds = (ap refusal.Rule adds.0, adds.1)
+  rule-in (Add (adding.Input only_hash)) told now l m rule h adds = (ap refusal.Rule adds.0, adds.1)
   rule-in (WriteInput how path) told now l m rule h adds = inr (rule, refl)
   rule-in (At ask path) told now l m rule h adds = (rule, refl)
   rule-in (Read offset count path) told now l m rule h adds = (rule, refl)
@@ -308,14 +300,14 @@ module _ (X : List ℕ → List ℕ) (N : List ℕ → ℕ) where
   rule-in (Pin (pins.Add cid)) told now l m rule h adds = absurd cc
   rule-in (Pin (pins.Remove cid)) told now l m rule h adds = absurd cc
   rule-in (Pin pins.List) told now l m rule h adds = absurd cc
-  rule-in (AddTo dest) told now l m rule h adds = (rule, refl)
-  rule-in (AddFromTo recursive path dest) told now l m rule h adds = inr (rule, refl)
-  rule-in (AddFrom recursive only_hash path) told now l m rule h adds = inr (rule, refl)
+  rule-in (Add (adding.InputTo dest)) told now l m rule h adds = (rule, refl)
+  rule-in (Add (adding.HostTo recursive path dest)) told now l m rule h adds = inr (rule, refl)
+  rule-in (Add (adding.Host recursive only_hash path)) told now l m rule h adds = inr (rule, refl)
 
   long-in : (command : Command) (told now : Told) (l m : streams.Told) → may_meet (kinds_of command) OfLongInput ≡ true → AddsFor X told now (Ok command) (Err refusal.InputTooLong) l m
       → RuleOf command refusal.InputTooLong told l m
   long-in (Init p) told now l m h adds = absurd cc
-  long-in (Add only_hash) told now l m h adds = absurd cc
+  long-in (Add (adding.Input only_hash)) told now l m h adds = absurd cc
   long-in (WriteInput how path) told now l m h adds = inl (refl, adds)
   long-in (At ask path) told now l m h adds = absurd cc
   long-in (Read offset count path) told now l m h adds = absurd cc
@@ -330,13 +322,13 @@ module _ (X : List ℕ → List ℕ) (N : List ℕ → ℕ) where
   long-in (Pin (pins.Add cid)) told now l m h adds = absurd cc
   long-in (Pin (pins.Remove cid)) told now l m h adds = absurd cc
   long-in (Pin pins.List) told now l m h adds = absurd cc
-  long-in (AddTo dest) told now l m h adds = absurd cc
-  long-in (AddFromTo recursive path dest) told now l m h adds = absurd cc
-  long-in (AddFrom recursive only_hash path) told now l m h adds = absurd cc
+  long-in (Add (adding.InputTo dest)) told now l m h adds = absurd cc
+  long-in (Add (adding.HostTo recursive path dest)) told now l m h adds = absurd cc
+  long-in (Add (adding.Host recursive only_hash path)) told now l m h adds = absurd cc
 
   no-path : (command : Command) → may_meet (kinds_of command) OfPath ≡ true → ⊥
   no-path (Init p) h = cc
-  no-path (Add only_hash) h = cc
+  no-path (Add (adding.Input only_hash)) h = cc
   no-path (WriteInput how path) h = cc
   no-path (At ask path) h = cc
   no-path (Read offset count path) h = cc
@@ -351,16 +343,16 @@ module _ (X : List ℕ → List ℕ) (N : List ℕ → ℕ) where
   no-path (Pin (pins.Add cid)) h = cc
   no-path (Pin (pins.Remove cid)) h = cc
   no-path (Pin pins.List) h = cc
-  no-path (AddTo dest) h = cc
-  no-path (AddFromTo recursive path dest) h = cc
-  no-path (AddFrom recursive only_hash path) h = cc
+  no-path (Add (adding.InputTo dest)) h = cc
+  no-path (Add (adding.HostTo recursive path dest)) h = cc
+  no-path (Add (adding.Host recursive only_hash path)) h = cc
 
   no-dag : (command : Command) → natures.reads_tree_alone command ≡ true → may_meet (kinds_of command) OfDag ≡ true → ⊥
   no-dag (Init p) needs h = cc
-  no-dag (Add only_hash) needs h = cc
-  no-dag (AddTo dest) needs h = cc
-  no-dag (AddFromTo recursive path dest) needs h = cc
-  no-dag (AddFrom recursive only_hash path) needs h = cc
+  no-dag (Add (adding.Input only_hash)) needs h = cc
+  no-dag (Add (adding.InputTo dest)) needs h = cc
+  no-dag (Add (adding.HostTo recursive path dest)) needs h = cc
+  no-dag (Add (adding.Host recursive only_hash path)) needs h = cc
   no-dag (WriteInput how path) needs h = cc
   no-dag (At ask path) needs h = cc
   no-dag (Read offset count path) needs h = cc
@@ -376,10 +368,10 @@ module _ (X : List ℕ → List ℕ) (N : List ℕ → ℕ) where
 
   no-car : (command : Command) → natures.reads_tree_alone command ≡ true → may_meet (kinds_of command) OfCar ≡ true → ⊥
   no-car (Init p) needs h = cc
-  no-car (Add only_hash) needs h = cc
-  no-car (AddTo dest) needs h = cc
-  no-car (AddFromTo recursive path dest) needs h = cc
-  no-car (AddFrom recursive only_hash path) needs h = cc
+  no-car (Add (adding.Input only_hash)) needs h = cc
+  no-car (Add (adding.InputTo dest)) needs h = cc
+  no-car (Add (adding.HostTo recursive path dest)) needs h = cc
+  no-car (Add (adding.Host recursive only_hash path)) needs h = cc
   no-car (WriteInput how path) needs h = cc
   no-car (At ask path) needs h = cc
   no-car (Read offset count path) needs h = cc
@@ -395,10 +387,10 @@ module _ (X : List ℕ → List ℕ) (N : List ℕ → ℕ) where
 
   host-in : (command : Command) (told : Told) (l m : streams.Told) (rule : HostRule) → may_meet (kinds_of command) OfHost ≡ true → RuleOf command (refusal.Host rule) told l m
   host-in (Init p) told l m rule h = absurd cc
-  host-in (Add only_hash) told l m rule h = absurd cc
-  host-in (AddTo dest) told l m rule h = absurd cc
-  host-in (AddFromTo recursive path dest) told l m rule h = inl (rule, refl)
-  host-in (AddFrom recursive only_hash path) told l m rule h = inl (rule, refl)
+  host-in (Add (adding.Input only_hash)) told l m rule h = absurd cc
+  host-in (Add (adding.InputTo dest)) told l m rule h = absurd cc
+  host-in (Add (adding.HostTo recursive path dest)) told l m rule h = inl (rule, refl)
+  host-in (Add (adding.Host recursive only_hash path)) told l m rule h = inl (rule, refl)
   host-in (WriteInput how path) told l m rule h = absurd cc
   host-in (At ask path) told l m rule h = absurd cc
   host-in (Read offset count path) told l m rule h = absurd cc

@@ -21,7 +21,8 @@ use Rattle.uf_top.specs.Reply.{reply}
 use Rattle.uf_command.specs.Statuses.{no_memory}
 use Rattle.uf_command.specs.declared.types.Ask.TheVariants.{Ls, Stat, Edit as Edits}
 use Rattle.uf_command.specs.declared.types.Command.{Command}
-use Rattle.uf_command.specs.declared.types.Command.TheVariants.{Init, Add, AddFrom, WriteInput, At, Read, Cat, Get, Export, Import, Same, Adopt, Gen, AddTo, AddFromTo, Pin, Prove}
+use Rattle.uf_command.specs.declared.types.Command.TheVariants.{Init, Add, WriteInput, At, Read, Cat, Get, Export, Import, Same, Adopt, Gen, Pin, Prove}
+use Rattle.uf_command.specs.declared.types.Adding.TheVariants as adding
 use Rattle.uf_command.specs.declared.types.PinAsk.TheVariants as pins
 use Rattle.uf_command.specs.declared.types.Refusal.{Refusal}
 use Rattle.uf_command.specs.declared.types.Refusal.TheVariants as refusal
@@ -41,7 +42,7 @@ use Rattle.uf_top.proofs.Shows.{counts-still, no-touch}
 -- want of memory may come of each command, which has written nothing then
 memory-kind : (command : Command) → may_close (kinds_of command) (refusal_kind no_memory) ≡ true
 memory-kind (Init p) = refl
-memory-kind (Add only_hash) = refl
+memory-kind (Add (adding.Input only_hash)) = refl
 memory-kind (WriteInput how path) = refl
 memory-kind (At ask path) = refl
 memory-kind (Read offset count path) = refl
@@ -56,16 +57,16 @@ memory-kind (Gen n seed) = refl
 memory-kind (Pin (pins.Add cid)) = refl
 memory-kind (Pin (pins.Remove cid)) = refl
 memory-kind (Pin pins.List) = refl
-memory-kind (AddTo dest) = refl
-memory-kind (AddFromTo recursive path dest) = refl
-memory-kind (AddFrom recursive only_hash path) = refl
+memory-kind (Add (adding.InputTo dest)) = refl
+memory-kind (Add (adding.HostTo recursive path dest)) = refl
+memory-kind (Add (adding.Host recursive only_hash path)) = refl
 
 memory-writes : (X : List ℕ → List ℕ) (command : Command) (a : Told) → WritesAs X (command_writes command) false a a
 memory-writes X (Init p) a = record { between = a; saves = SavesOnly-refl X a; last = StaysSame refl }
-memory-writes X (Add true) a = refl
-memory-writes X (Add false) a = record { between = a; saves = SavesOnly-refl X a; last = StaysSame refl }
-memory-writes X (AddTo dest) a = record { between = a; saves = SavesOnly-refl X a; last = StaysSame refl }
-memory-writes X (AddFromTo recursive path dest) a = record { between = a; saves = SavesOnly-refl X a; last = StaysSame refl }
+memory-writes X (Add (adding.Input true)) a = refl
+memory-writes X (Add (adding.Input false)) a = record { between = a; saves = SavesOnly-refl X a; last = StaysSame refl }
+memory-writes X (Add (adding.InputTo dest)) a = record { between = a; saves = SavesOnly-refl X a; last = StaysSame refl }
+memory-writes X (Add (adding.HostTo recursive path dest)) a = record { between = a; saves = SavesOnly-refl X a; last = StaysSame refl }
 memory-writes X (WriteInput how path) a = record { between = a; saves = SavesOnly-refl X a; last = StaysSame refl }
 memory-writes X (At (Ls long) path) a = refl
 memory-writes X (At Stat path) a = refl
@@ -82,8 +83,8 @@ memory-writes X (Gen n seed) a = refl
 memory-writes X (Pin (pins.Add cid)) a = inl refl
 memory-writes X (Pin (pins.Remove cid)) a = refl
 memory-writes X (Pin pins.List) a = refl
-memory-writes X (AddFrom recursive true path) a = refl
-memory-writes X (AddFrom recursive false path) a = record { between = a; saves = SavesOnly-refl X a; last = StaysSame refl }
+memory-writes X (Add (adding.Host recursive true path)) a = refl
+memory-writes X (Add (adding.Host recursive false path)) a = record { between = a; saves = SavesOnly-refl X a; last = StaysSame refl }
 
 -- nothing is written to the host then
 same-left : (source : DagPath) (path : List ℕ) (store : Told) (told : HostTold) → IfSome store (λ t. LeavesAt (held_at t) source path told told status.Memory)
@@ -92,10 +93,7 @@ same-left source path (Some t) told = inl refl
 
 nothing-gotten : (command : Command) (store : Told) (told : HostTold) → GetsFor command status.Memory store told told
 nothing-gotten (Init p) store told = tt
-nothing-gotten (Add only_hash) store told = tt
-nothing-gotten (AddTo dest) store told = tt
-nothing-gotten (AddFromTo recursive path dest) store told = tt
-nothing-gotten (AddFrom recursive only_hash path) store told = tt
+nothing-gotten (Add what) store told = tt
 nothing-gotten (WriteInput how path) store told = tt
 nothing-gotten (At ask path) store told = tt
 nothing-gotten (Read offset count path) store told = tt
@@ -112,10 +110,7 @@ nothing-gotten (Pin ask) store told = tt
 -- and the note of pins stays
 nothing-pinned : (command : Command) (told : Told) → PinsFor command (Err no_memory) told told
 nothing-pinned (Init p) told = tt
-nothing-pinned (Add only_hash) told = tt
-nothing-pinned (AddTo dest) told = tt
-nothing-pinned (AddFromTo recursive path dest) told = tt
-nothing-pinned (AddFrom recursive only_hash path) told = tt
+nothing-pinned (Add what) told = tt
 nothing-pinned (WriteInput how path) told = tt
 nothing-pinned (At ask path) told = tt
 nothing-pinned (Read offset count path) told = tt
@@ -188,10 +183,10 @@ module _ (X : List ℕ → List ℕ) (N : List ℕ → ℕ) (a : Around) where
 
 may-section : (command : Command) → may_close (kinds_of command) OfSections ≡ true → own_store command ≡ NoStore → ⊥
 may-section (Init p) h none = cc
-may-section (Add only_hash) h none = cc
-may-section (AddTo dest) h none = cc
-may-section (AddFromTo recursive path dest) h none = cc
-may-section (AddFrom recursive only_hash path) h none = cc
+may-section (Add (adding.Input only_hash)) h none = cc
+may-section (Add (adding.InputTo dest)) h none = cc
+may-section (Add (adding.HostTo recursive path dest)) h none = cc
+may-section (Add (adding.Host recursive only_hash path)) h none = cc
 may-section (WriteInput how path) h none = cc
 may-section (At ask path) h none = cc
 may-section (Read offset count path) h none = cc
@@ -209,10 +204,10 @@ may-section (Pin pins.List) h none = cc
 
 may-clash : (command : Command) → may_close (kinds_of command) OfOwnClash ≡ true → own_store command ≡ NoStore → ⊥
 may-clash (Init p) h none = cc
-may-clash (Add only_hash) h none = cc
-may-clash (AddTo dest) h none = cc
-may-clash (AddFromTo recursive path dest) h none = cc
-may-clash (AddFrom recursive only_hash path) h none = cc
+may-clash (Add (adding.Input only_hash)) h none = cc
+may-clash (Add (adding.InputTo dest)) h none = cc
+may-clash (Add (adding.HostTo recursive path dest)) h none = cc
+may-clash (Add (adding.Host recursive only_hash path)) h none = cc
 may-clash (WriteInput how path) h none = cc
 may-clash (At ask path) h none = cc
 may-clash (Read offset count path) h none = cc
@@ -261,10 +256,10 @@ module _ (X : List ℕ → List ℕ) (left : streams.Told) (a b : Seen) where
 -- a command on the tree alone has no store of its own
 pub alone-spares : (command : Command) → reads_tree_alone command ≡ true → own_store command ≡ NoStore
 alone-spares (Init p) h = refl
-alone-spares (Add only_hash) h = refl
-alone-spares (AddTo dest) h = refl
-alone-spares (AddFromTo recursive path dest) h = refl
-alone-spares (AddFrom recursive only_hash path) h = refl
+alone-spares (Add (adding.Input only_hash)) h = refl
+alone-spares (Add (adding.InputTo dest)) h = refl
+alone-spares (Add (adding.HostTo recursive path dest)) h = refl
+alone-spares (Add (adding.Host recursive only_hash path)) h = refl
 alone-spares (WriteInput how path) h = refl
 alone-spares (At ask path) h = refl
 alone-spares (Read offset count path) h = refl
@@ -281,10 +276,10 @@ alone-spares (Pin ask) h = refl
 -- and generates nothing
 pub alone-given : (command : Command) → reads_tree_alone command ≡ true → generates command ≡ true → ⊥
 alone-given (Init p) h own = cc
-alone-given (Add only_hash) h own = cc
-alone-given (AddTo dest) h own = cc
-alone-given (AddFromTo recursive path dest) h own = cc
-alone-given (AddFrom recursive only_hash path) h own = cc
+alone-given (Add (adding.Input only_hash)) h own = cc
+alone-given (Add (adding.InputTo dest)) h own = cc
+alone-given (Add (adding.HostTo recursive path dest)) h own = cc
+alone-given (Add (adding.Host recursive only_hash path)) h own = cc
 alone-given (WriteInput how path) h own = cc
 alone-given (At ask path) h own = cc
 alone-given (Read offset count path) h own = cc

@@ -30,7 +30,8 @@ use Rattle.uf_command.specs.declared.status.Status.{Status}
 use Rattle.uf_command.specs.declared.status.Status.TheVariants as status
 use Rattle.uf_command.specs.declared.types.Ask.TheVariants.{Ls, Stat, Edit as Edits}
 use Rattle.uf_command.specs.declared.types.Command.{Command}
-use Rattle.uf_command.specs.declared.types.Command.TheVariants.{Init, Add, AddFrom, WriteInput, At, Read, Cat, Get, Export, Import, Same, Adopt, Gen, AddTo, AddFromTo, Pin, Prove}
+use Rattle.uf_command.specs.declared.types.Command.TheVariants.{Init, Add, WriteInput, At, Read, Cat, Get, Export, Import, Same, Adopt, Gen, Pin, Prove}
+use Rattle.uf_command.specs.declared.types.Adding.TheVariants as adding
 use Rattle.uf_command.specs.declared.types.PinAsk.{PinAsk}
 use Rattle.uf_command.specs.declared.types.PinAsk.TheVariants as pins
 use Rattle.uf_command.specs.declared.types.Refusal.{Refusal}
@@ -55,7 +56,7 @@ use Rattle.uf_top.proofs.Standings.{stands-kept, tells-none}
 
 no-path : (command : Command) → may_close (kinds_of command) OfPath ≡ true → ⊥
 no-path (Init p) h = cc
-no-path (Add only_hash) h = cc
+no-path (Add (adding.Input only_hash)) h = cc
 no-path (WriteInput how path) h = cc
 no-path (At ask path) h = cc
 no-path (Read offset count path) h = cc
@@ -70,13 +71,13 @@ no-path (Gen n seed) h = cc
 no-path (Pin (pins.Add cid)) h = cc
 no-path (Pin (pins.Remove cid)) h = cc
 no-path (Pin pins.List) h = cc
-no-path (AddTo dest) h = cc
-no-path (AddFromTo recursive path dest) h = cc
-no-path (AddFrom recursive only_hash path) h = cc
+no-path (Add (adding.InputTo dest)) h = cc
+no-path (Add (adding.HostTo recursive path dest)) h = cc
+no-path (Add (adding.Host recursive only_hash path)) h = cc
 
 no-usage : (command : Command) → may_close (kinds_of command) OfUsage ≡ true → ⊥
 no-usage (Init p) h = cc
-no-usage (Add only_hash) h = cc
+no-usage (Add (adding.Input only_hash)) h = cc
 no-usage (WriteInput how path) h = cc
 no-usage (At ask path) h = cc
 no-usage (Read offset count path) h = cc
@@ -91,14 +92,14 @@ no-usage (Gen n seed) h = cc
 no-usage (Pin (pins.Add cid)) h = cc
 no-usage (Pin (pins.Remove cid)) h = cc
 no-usage (Pin pins.List) h = cc
-no-usage (AddTo dest) h = cc
-no-usage (AddFromTo recursive path dest) h = cc
-no-usage (AddFrom recursive only_hash path) h = cc
+no-usage (Add (adding.InputTo dest)) h = cc
+no-usage (Add (adding.HostTo recursive path dest)) h = cc
+no-usage (Add (adding.Host recursive only_hash path)) h = cc
 
 -- a command that generates a tree meets no clash in the store
 tree-clashes : (command : Command) → may_end command OfClash ≡ true → own_store command ≡ OfTree → ⊥
 tree-clashes (Init p) h own = cc
-tree-clashes (Add only_hash) h own = cc
+tree-clashes (Add (adding.Input only_hash)) h own = cc
 tree-clashes (WriteInput how path) h own = cc
 tree-clashes (At ask path) h own = cc
 tree-clashes (Read offset count path) h own = cc
@@ -111,9 +112,9 @@ tree-clashes (Same cid) h own = cc
 tree-clashes (Adopt source dest) h own = cc
 tree-clashes (Gen n seed) h own = cc
 tree-clashes (Pin ask) h own = cc
-tree-clashes (AddTo dest) h own = cc
-tree-clashes (AddFromTo recursive path dest) h own = cc
-tree-clashes (AddFrom recursive only_hash path) h own = cc
+tree-clashes (Add (adding.InputTo dest)) h own = cc
+tree-clashes (Add (adding.HostTo recursive path dest)) h own = cc
+tree-clashes (Add (adding.Host recursive only_hash path)) h own = cc
 
 -- ---- a refusal of a kind with which a command may end gives a status that it may give
 
@@ -237,10 +238,10 @@ reading-rose false false is_write i j s t both counts used = counts.rose refl
 -- what writes to the host uses it
 writing-uses : (command : Command) → writes_host command ≡ true → uses_host command ≡ true
 writing-uses (Init p) h = absurd cc
-writing-uses (Add only_hash) h = absurd cc
-writing-uses (AddTo dest) h = absurd cc
-writing-uses (AddFromTo recursive path dest) h = absurd cc
-writing-uses (AddFrom recursive only_hash path) h = absurd cc
+writing-uses (Add (adding.Input only_hash)) h = absurd cc
+writing-uses (Add (adding.InputTo dest)) h = absurd cc
+writing-uses (Add (adding.HostTo recursive path dest)) h = absurd cc
+writing-uses (Add (adding.Host recursive only_hash path)) h = absurd cc
 writing-uses (WriteInput how path) h = absurd cc
 writing-uses (At ask path) h = absurd cc
 writing-uses (Read offset count path) h = absurd cc
@@ -345,10 +346,10 @@ module _ (hash : List ℕ → List ℕ) (P : Role → List ℕ → Type 0) (a b 
 -- a command that may say that the note of pins isn't read is one on pins
 pins-unread : (Says : List ℕ → Type 0) (command : Command) (a b : Told) → may_close (kinds_of command) OfPins ≡ true → PinsFor command (Err refusal.BadPins) a b → PinsUnread Says command a
 pins-unread Says (Init profile) a b h p = absurd cc
-pins-unread Says (Add only_hash) a b h p = absurd cc
-pins-unread Says (AddTo dest) a b h p = absurd cc
-pins-unread Says (AddFromTo recursive path dest) a b h p = absurd cc
-pins-unread Says (AddFrom recursive only_hash path) a b h p = absurd cc
+pins-unread Says (Add (adding.Input only_hash)) a b h p = absurd cc
+pins-unread Says (Add (adding.InputTo dest)) a b h p = absurd cc
+pins-unread Says (Add (adding.HostTo recursive path dest)) a b h p = absurd cc
+pins-unread Says (Add (adding.Host recursive only_hash path)) a b h p = absurd cc
 pins-unread Says (WriteInput how path) a b h p = absurd cc
 pins-unread Says (At ask path) a b h p = absurd cc
 pins-unread Says (Read offset count path) a b h p = absurd cc
@@ -400,10 +401,7 @@ detailed-left-pins pins.List a b status.NotReady h left = left
 
 pub detailed-pins : (command : Command) (why : Refusal) (a b : Told) → has_details (status_of why) ≡ true → PinsFor command (Err why) a b → PinsFor command (Err no_memory) a b
 detailed-pins (Init profile) why a b h p = tt
-detailed-pins (Add only_hash) why a b h p = tt
-detailed-pins (AddTo dest) why a b h p = tt
-detailed-pins (AddFromTo recursive path dest) why a b h p = tt
-detailed-pins (AddFrom recursive only_hash path) why a b h p = tt
+detailed-pins (Add what) why a b h p = tt
 detailed-pins (WriteInput how path) why a b h p = tt
 detailed-pins (At ask path) why a b h p = tt
 detailed-pins (Read offset count path) why a b h p = tt
@@ -627,10 +625,7 @@ module _ (Says : List ℕ → Type 0) where
 
       pub detailed-gets : (command : Command) (store : Told) (host now : HostTold) (s : Status) → has_details s ≡ true → GetsFor command s store host now → GetsFor command status.Memory store host now
       detailed-gets (Init p) store host now s h gets = tt
-      detailed-gets (Add only_hash) store host now s h gets = tt
-      detailed-gets (AddTo dest) store host now s h gets = tt
-      detailed-gets (AddFromTo recursive path dest) store host now s h gets = tt
-      detailed-gets (AddFrom recursive only_hash path) store host now s h gets = tt
+      detailed-gets (Add what) store host now s h gets = tt
       detailed-gets (WriteInput how path) store host now s h gets = tt
       detailed-gets (At ask path) store host now s h gets = tt
       detailed-gets (Read offset count path) store host now s h gets = tt
@@ -711,14 +706,14 @@ module _ (Says : List ℕ → Type 0) where
 
       pub synced-told : (command : Command) (done : Result (Unit {0}) Refusal) → Does X N command done a b → TellsEnd Says done given → given ≡ status.Ok → IsSyncedFor command b.store.told
       synced-told (Init p) done s t is = tt
-      synced-told (Add true) done s t is = tt
-      synced-told (Add false) done s t is =
-          synced-of X a.store.told b.store.told (subst (λ d. WritesAs X (command_writes (Add false)) d a.store.told b.store.told) (was-ok done t is) s.leaves.writes)
-      synced-told (AddFrom recursive true path) done s t is = tt
-      synced-told (AddFrom recursive false path) done s t is =
-          synced-of X a.store.told b.store.told (subst (λ d. WritesAs X (command_writes (AddFrom recursive false path)) d a.store.told b.store.told) (was-ok done t is) s.leaves.writes)
-      synced-told (AddTo dest) done s t is = tt
-      synced-told (AddFromTo recursive path dest) done s t is = tt
+      synced-told (Add (adding.Input true)) done s t is = tt
+      synced-told (Add (adding.Input false)) done s t is =
+          synced-of X a.store.told b.store.told (subst (λ d. WritesAs X (command_writes (Add (adding.Input false))) d a.store.told b.store.told) (was-ok done t is) s.leaves.writes)
+      synced-told (Add (adding.Host recursive true path)) done s t is = tt
+      synced-told (Add (adding.Host recursive false path)) done s t is =
+          synced-of X a.store.told b.store.told (subst (λ d. WritesAs X (command_writes (Add (adding.Host recursive false path))) d a.store.told b.store.told) (was-ok done t is) s.leaves.writes)
+      synced-told (Add (adding.InputTo dest)) done s t is = tt
+      synced-told (Add (adding.HostTo recursive path dest)) done s t is = tt
       synced-told (WriteInput how path) done s t is = tt
       synced-told (At ask path) done s t is = tt
       synced-told (Read offset count path) done s t is = tt
@@ -738,10 +733,10 @@ module _ (Says : List ℕ → Type 0) where
 
       pub told-same : (command : Command) (done : Result (Unit {0}) Refusal) → Does X N command done a b → only_reads command ≡ true → b.store.told ≡ a.store.told
       told-same (Init p) done s is = absurd cc
-      told-same (Add true) done s is = s.leaves.writes
-      told-same (Add false) done s is = absurd cc
-      told-same (AddTo dest) done s is = absurd cc
-      told-same (AddFromTo recursive path dest) done s is = absurd cc
+      told-same (Add (adding.Input true)) done s is = s.leaves.writes
+      told-same (Add (adding.Input false)) done s is = absurd cc
+      told-same (Add (adding.InputTo dest)) done s is = absurd cc
+      told-same (Add (adding.HostTo recursive path dest)) done s is = absurd cc
       told-same (WriteInput how path) done s is = absurd cc
       told-same (At (Ls long) path) done s is = s.leaves.writes
       told-same (At Stat path) done s is = s.leaves.writes
@@ -758,8 +753,8 @@ module _ (Says : List ℕ → Type 0) where
       told-same (Pin (pins.Add cid)) done s is = absurd cc
       told-same (Pin (pins.Remove cid)) done s is = absurd cc
       told-same (Pin pins.List) done s is = s.leaves.writes
-      told-same (AddFrom recursive true path) done s is = s.leaves.writes
-      told-same (AddFrom recursive false path) done s is = absurd cc
+      told-same (Add (adding.Host recursive true path)) done s is = s.leaves.writes
+      told-same (Add (adding.Host recursive false path)) done s is = absurd cc
 
       pub idle-told : (command : Command) (done : Result (Unit {0}) Refusal) → Does X N command done a b → (p : Profile) (es : Entries) (bytes : List ℕ) → NamesOver X N a.store.told p es → HasInput (Ok command) a.left bytes a.reads b.reads → Stood a.store.faults b.store.faults
           → is_idle bytes es command ≡ true → b.store.told ≡ a.store.told

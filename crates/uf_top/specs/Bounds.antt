@@ -11,7 +11,8 @@ use Rattle.uf_tree.specs.declared.profile.Profile.{Profile}
 use Rattle.uf_command.specs.declared.types.Ask.{Ask}
 use Rattle.uf_command.specs.declared.types.Ask.TheVariants.{Ls, Stat, Edit as Edits}
 use Rattle.uf_command.specs.declared.types.Command.{Command}
-use Rattle.uf_command.specs.declared.types.Command.TheVariants.{Add, AddFrom, WriteInput, At, Read, Gen, Pin}
+use Rattle.uf_command.specs.declared.types.Command.TheVariants.{Add, WriteInput, At, Read, Gen, Pin}
+use Rattle.uf_command.specs.declared.types.Adding.TheVariants as adding
 use Rattle.uf_command.specs.declared.types.PinAsk.TheVariants as pins
 use Rattle.uf_command.specs.declared.types.Edit.TheVariants.{Write}
 use Rattle.uf_command.specs.declared.types.Refusal.{Refusal}
@@ -31,9 +32,9 @@ module _ (X : List ℕ → List ℕ) (N : List ℕ → ℕ) (rows : ℕ → ℕ)
   -- `init`, of an `add` that keeps its blocks, also with `--to-files`, of `cat` and `get`, of what has to do with
   -- CARs, as `prove` has, and of a copy from a DAG
   abbrev pub command_touches : List ℕ → Command → Profile → Entries → Option ℕ
-  command_touches bytes (Add true) p es = Some 0
-  command_touches bytes (Add false) p es = None
-  command_touches bytes (AddFrom recursive true path) p es = Some 0
+  command_touches bytes (Add (adding.Input true)) p es = Some 0
+  command_touches bytes (Add (adding.Input false)) p es = None
+  command_touches bytes (Add (adding.Host recursive true path)) p es = Some 0
   command_touches bytes (Gen n seed) p es = Some 0
   command_touches bytes (Pin (pins.Remove cid)) p es = Some 0
   command_touches bytes (Pin pins.List) p es = Some 0

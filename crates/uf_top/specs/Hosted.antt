@@ -13,7 +13,8 @@ use Rattle.uf_tree.specs.Tree.{Tree, is_tree}
 use Rattle.uf_tree.specs.TreePlan as plan
 use Rattle.uf_tree.specs.declared.profile.Profile.{Profile}
 use Rattle.uf_command.specs.declared.types.Command.{Command}
-use Rattle.uf_command.specs.declared.types.Command.TheVariants.{AddFrom, AddFromTo}
+use Rattle.uf_command.specs.declared.types.Command.TheVariants.{Add}
+use Rattle.uf_command.specs.declared.types.Adding.TheVariants as adding
 use Rattle.uf_command.specs.declared.types.Refusal.{Refusal}
 use Rattle.uf_command.specs.declared.types.Refusal.TheVariants as refusal
 use Rattle.uf_top.specs.Causes.{AddsBy, HoldsUnless}
@@ -67,8 +68,8 @@ module _ (X : List ℕ → List ℕ) (N : List ℕ → ℕ) where
 
   -- the text of a command that adds from the host is these rows; of another command nothing is said
   abbrev pub IsHostedText : (told now : Told) → HostTold → Command → List ℕ → Type 0
-  IsHostedText told now host (AddFrom recursive only_hash path) text =
+  IsHostedText told now host (Add (adding.Host recursive only_hash path)) text =
       AreHostRows told now host recursive only_hash path text
-  IsHostedText told now host (AddFromTo recursive path dest) text =
+  IsHostedText told now host (Add (adding.HostTo recursive path dest)) text =
       AreHostRows told now host recursive false path text
   IsHostedText told now host command text = ⊤

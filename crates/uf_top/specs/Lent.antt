@@ -62,6 +62,13 @@ OverInput i did was input from now rest to =
     → did (around was (i.left input) (i.faults input) held writes from host)
     (around now (i.left rest) (i.faults rest) held writes to host)
 
+-- the same with an input and a host
+abbrev pub OverInputHost : {I W : Type 0} → SourceGhosts I → HostGhosts W → (Around → Around → Type 0)
+    → Seen → I → ℕ → W → Seen → I → ℕ → W → Type 0
+OverInputHost i w did was input from host now rest to host_now = (held : streams.Told) (writes : ℕ)
+    → did (around was (i.left input) (i.faults input) held writes from (side_at w host))
+    (around now (i.left rest) (i.faults rest) held writes to (side_at w host_now))
+
 -- the same with an output
 abbrev pub OverOutput : {O : Type 0} → SinkGhosts O → (Around → Around → Type 0) → Seen → O → ℕ → Seen → O → ℕ → Type 0
 OverOutput o did was output from now written to =

@@ -21,7 +21,8 @@ use Rattle.uf_command.specs.declared.status.Status.{Status}
 use Rattle.uf_command.specs.declared.types.Ask.{Ask}
 use Rattle.uf_command.specs.declared.types.Ask.TheVariants.{Ls, Stat, Edit as Edits}
 use Rattle.uf_command.specs.declared.types.Command.{Command}
-use Rattle.uf_command.specs.declared.types.Command.TheVariants.{WriteInput, At, Read, Adopt, AddTo, AddFromTo, Prove}
+use Rattle.uf_command.specs.declared.types.Command.TheVariants.{WriteInput, At, Read, Adopt, Add, Prove}
+use Rattle.uf_command.specs.declared.types.Adding.TheVariants as adding
 use Rattle.uf_command.specs.declared.types.Refusal.{Refusal}
 use Rattle.uf_command.specs.declared.types.Refusal.TheVariants as refusal
 use Rattle.uf_top.specs.Endings.{EndsBy, PrintsAll}
@@ -48,8 +49,8 @@ module _ (X : List ℕ → List ℕ) (N : List ℕ → ℕ) where
 
   -- the blocks that a command needs of the tree that the Head names: those of what is asked, and the root block
   abbrev pub command_needs : (ℕ → ℕ) → Command → Profile → Entries → List Held
-  command_needs rows (AddTo dest) p es = root_of X N p (Dir es) ++ blocks X N p (Dir es)
-  command_needs rows (AddFromTo recursive path dest) p es = root_of X N p (Dir es) ++ blocks X N p (Dir es)
+  command_needs rows (Add (adding.InputTo dest)) p es = root_of X N p (Dir es) ++ blocks X N p (Dir es)
+  command_needs rows (Add (adding.HostTo recursive path dest)) p es = root_of X N p (Dir es) ++ blocks X N p (Dir es)
   command_needs rows (WriteInput how path) p es = root_of X N p (Dir es) ++ blocks X N p (Dir es)
   command_needs rows (At ask path) p es = root_of X N p (Dir es) ++ ask_needs ask path.names p es
   command_needs rows (Read offset count path) p es =

@@ -23,9 +23,7 @@ ghost use Rattle.uf_top.specs.Running.{Runs};
 ghost use Rattle.uf_top.specs.Talking.{RunsPull, RunsServe};
 ghost use Rattle.uf_top.specs.Working.{Does, SaysText, Serves, Spares};
 
-use crate::commands::add::adds;
-use crate::commands::add_from::add_from;
-use crate::commands::add_to_files::{add_from_to, add_to};
+use crate::commands::adding::adds;
 use crate::commands::batch::{MOST_OF_BATCH, MOST_OF_LINE, batch};
 use crate::commands::cat::cat;
 use crate::commands::dag::{compare_car, export_car, import_car};
@@ -232,43 +230,16 @@ fn carry_out<S: Store, N: NameHash, W: Host, I: Source, O: Sink, L: Ledger>(
         touches.new }
 {
     match command {
-        Command::Init { profile } => {
-            say(init::<S, N, L>(alloc, *profile, store, touches), output)
-        }
-        Command::Add { only_hash } => say(adds(alloc, *only_hash, store, input, touches), output),
-        Command::AddFrom {
-            recursive,
-            only_hash,
-            path,
-        } => {
-            let rows = add_from::<S, N, W, L>(
-                alloc, *recursive, *only_hash, path, store, host, touches,
-            );
-            say(rows, output)
-        }
-        Command::AddTo { dest } => {
-            say(
-                add_to::<S, N, I, L>(alloc, dest, store, input, touches),
-                output,
-            )
-        }
-        Command::AddFromTo {
-            recursive,
-            path,
-            dest,
-        } => {
-            let rows = add_from_to::<S, N, W, L>(
-                alloc, *recursive, path, dest, store, host, touches,
-            );
+        Command::Init { profile } => say(init::<S, N, L>(alloc, *profile, store, touches), output),
+        Command::Add { adding } => {
+            let rows = adds::<S, N, W, I, L>(alloc, adding, store, host, input, touches);
             say(rows, output)
         }
         Command::WriteInput { how, path } => {
             let nothing = write_input::<S, N, I, L>(alloc, *how, path, store, input, touches);
             say(nothing, output)
         }
-        Command::At { ask, path } => {
-            say(at::<S, N, L>(alloc, ask, path, store, touches), output)
-        }
+        Command::At { ask, path } => say(at::<S, N, L>(alloc, ask, path, store, touches), output),
         Command::Read {
             offset,
             count,

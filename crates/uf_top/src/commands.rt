@@ -3,6 +3,7 @@
 pub mod add;
 pub mod add_from;
 pub mod add_to_files;
+pub mod adding;
 pub mod batch;
 pub mod cat;
 pub mod dag;

@@ -19,6 +19,7 @@ ghost use Rattle.uf_command.specs.Natures.{MakesHead};
 ghost use Rattle.uf_command.specs.declared.status.Status.TheVariants as status;
 ghost use Rattle.uf_command.specs.declared.types.Command.{Command};
 ghost use Rattle.uf_command.specs.declared.types.Command.TheVariants as commands;
+ghost use Rattle.uf_command.specs.declared.types.Adding.TheVariants as adding;
 ghost use Rattle.uf_command.specs.declared.types.Refusal.{Refusal};
 ghost use Rattle.uf_top.specs.Added.{EachHolds, KeepsHosted, KeepsInput};
 ghost use Rattle.uf_top.specs.Around.{CountsCanRise};
@@ -86,11 +87,13 @@ pub fn a_stop_of_init_leaves_no_head_or_its_tree()
 /// is held whatever a stop leaves. These are the blocks of the file of its input, and of the tree that the host has.
 pub fn a_stop_after_add_leaves_its_blocks()
     ensures input { (X : List ℕ → List ℕ) (N : List ℕ → ℕ) (before now : Scene) (a b : Contents)
-        → Runs (Said before.errors now.errors) X N (Ok (commands.Add false)) status.Ok before.around now.around
+        → Runs (Said before.errors now.errors) X N (Ok (commands.Add (adding.Input false)))
+        status.Ok before.around now.around
         → before.around.store.told ≡ Some a → now.around.store.told ≡ Some b → IsPlain a
         → KeepsInput X before.around now.around a b }
     ensures host { (X : List ℕ → List ℕ) (N : List ℕ → ℕ) (recursive : Bool) (path : List ℕ) (before now : Scene)
-        (a b : Contents) → Runs (Said before.errors now.errors) X N (Ok (commands.AddFrom recursive false path))
+        (a b : Contents) → Runs (Said before.errors now.errors) X N
+        (Ok (commands.Add (adding.Host recursive false path)))
         status.Ok before.around now.around
         → before.around.store.told ≡ Some a → now.around.store.told ≡ Some b → IsPlain a
         → KeepsHosted X N recursive path before.around now.around a b }

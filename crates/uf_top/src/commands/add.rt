@@ -14,6 +14,7 @@ ghost use Rattle.uf_top.specs.Lent.{OverInput};
 ghost use Rattle.uf_top.specs.Shapes.{WritesAs, is_ok};
 ghost use Rattle.uf_top.specs.Working.{Makes};
 ghost use Rattle.uf_command.specs.declared.types.Command.TheVariants as commands;
+ghost use Rattle.uf_command.specs.declared.types.Adding.TheVariants as adding;
 
 use crate::given::Given;
 use std::alloc::Global;
@@ -27,33 +28,14 @@ use uf_plain::Rule;
 use uf_store::{Note, NoteRead, Steps, Store, StoreFault};
 use uf_tree::{Entry, HeadFault, Profile, read_head};
 
-// Adds the input, or only makes its row.
-pub fn adds<S: Store, I: Source, L: Ledger>(
-    alloc: Global,
-    only_hash: bool,
-    store: &mut S,
-    input: &mut I,
-    touches: &mut Steps<L>,
-) -> Result<Block, Refusal>
-    ensures works { (N : List ℕ → ℕ) → OverInput I.Source (Makes S.X.block32 N (commands.Add only_hash) result)
-        (S.seen store.old) input.old touches.old (S.seen store.new) input.new touches.new }
-    ensures untouched { only_hash ≡ true → touches.new ≡ touches.old }
-{
-    if only_hash {
-        add_only_hash(alloc, store, input)
-    } else {
-        add(alloc, store, input, touches)
-    }
-}
-
 // Adds the input, and makes its blocks durable.
-fn add<S: Store, I: Source, L: Ledger>(
+pub fn add<S: Store, I: Source, L: Ledger>(
     alloc: Global,
     store: &mut S,
     input: &mut I,
     touches: &mut Steps<L>,
 ) -> Result<Block, Refusal>
-    ensures { (N : List ℕ → ℕ) → OverInput I.Source (Makes S.X.block32 N (commands.Add false) result)
+    ensures { (N : List ℕ → ℕ) → OverInput I.Source (Makes S.X.block32 N (commands.Add (adding.Input false)) result)
         (S.seen store.old) input.old touches.old (S.seen store.new) input.new touches.new }
 {
     match head_profile(alloc, store)? {
@@ -63,13 +45,13 @@ fn add<S: Store, I: Source, L: Ledger>(
 }
 
 // The row of the input as a file, with nothing kept and no touch counted.
-fn add_only_hash<S: Store, I: Source>(
+pub fn add_only_hash<S: Store, I: Source>(
     alloc: Global,
     store: &mut S,
     input: &mut I,
 ) -> Result<Block, Refusal>
     ensures { (N : List ℕ → ℕ) (held : Told) (writes touches : ℕ) (host : HostSide)
-        → Makes S.X.block32 N (commands.Add true) result
+        → Makes S.X.block32 N (commands.Add (adding.Input true)) result
         (around (S.seen store.old) (I.left input.old) (I.faults input.old) held writes touches host)
         (around (S.seen store.new) (I.left input.new) (I.faults input.new) held writes touches host) }
 {

@@ -4,6 +4,7 @@ ghost use Rattle.std.specs.List.{flat_map};
 ghost use Rattle.uf_edge.specs.Streams.{Told};
 ghost use Rattle.uf_command.specs.Natures.{SyncsBlocks};
 ghost use Rattle.uf_command.specs.declared.types.Command.TheVariants as commands;
+ghost use Rattle.uf_command.specs.declared.types.Adding.TheVariants as adding;
 ghost use Rattle.uf_store.specs.Keeping.{KeepsGood};
 ghost use Rattle.uf_top.specs.Around.{OnlyReadsHost, around};
 ghost use Rattle.uf_top.specs.Lent.{OverHost, side_at};
@@ -30,29 +31,8 @@ use uf_plain::Rule;
 use uf_store::{Steps, Store};
 use uf_tree::{Entry, Profile};
 
-// Adds what the host has at a path, or only makes its rows.
-pub fn add_from<S: Store, N: NameHash, W: Host, L: Ledger>(
-    alloc: Global,
-    recursive: bool,
-    only_hash: bool,
-    path: &Text,
-    store: &mut S,
-    host: &mut W,
-    touches: &mut Steps<L>,
-) -> Result<Block, Refusal>
-    ensures works { OverHost W.Host (Makes S.X.block32 N.name64 (commands.AddFrom recursive only_hash path.now) result)
-        (S.seen store.old) touches.old host.old (S.seen store.new) touches.new host.new }
-    ensures untouched { only_hash ≡ true → touches.new ≡ touches.old }
-{
-    if only_hash {
-        hash_from::<S, N, W>(alloc, recursive, path, store, host)
-    } else {
-        keep_from::<S, N, W, L>(alloc, recursive, path, store, host, touches)
-    }
-}
-
 // Adds what the host has at a path, and makes its blocks durable.
-fn keep_from<S: Store, N: NameHash, W: Host, L: Ledger>(
+pub fn keep_from<S: Store, N: NameHash, W: Host, L: Ledger>(
     alloc: Global,
     recursive: bool,
     path: &Text,
@@ -60,7 +40,7 @@ fn keep_from<S: Store, N: NameHash, W: Host, L: Ledger>(
     host: &mut W,
     touches: &mut Steps<L>,
 ) -> Result<Block, Refusal>
-    ensures { OverHost W.Host (Makes S.X.block32 N.name64 (commands.AddFrom recursive false path.now) result)
+    ensures { OverHost W.Host (Makes S.X.block32 N.name64 (commands.Add (adding.Host recursive false path.now)) result)
         (S.seen store.old) touches.old host.old (S.seen store.new) touches.new host.new }
 {
     match head_profile(alloc, store)? {
@@ -72,7 +52,7 @@ fn keep_from<S: Store, N: NameHash, W: Host, L: Ledger>(
 }
 
 // The rows of what the host has at a path, with nothing kept and no touch counted.
-fn hash_from<S: Store, N: NameHash, W: Host>(
+pub fn hash_from<S: Store, N: NameHash, W: Host>(
     alloc: Global,
     recursive: bool,
     path: &Text,
@@ -80,7 +60,7 @@ fn hash_from<S: Store, N: NameHash, W: Host>(
     host: &mut W,
 ) -> Result<Block, Refusal>
     ensures { (left : Told) (reads : ℕ) (held : Told) (writes : ℕ) (touches : ℕ) → Makes S.X.block32 N.name64
-        (commands.AddFrom recursive true path.now) result
+        (commands.Add (adding.Host recursive true path.now)) result
         (around (S.seen store.old) left reads held writes touches (side_at W.Host host.old))
         (around (S.seen store.new) left reads held writes touches (side_at W.Host host.new)) }
 {

@@ -4,6 +4,7 @@ ghost use Rattle.uf_edge.specs.Counts.{Counts};
 ghost use Rattle.uf_mfs.specs.Standing.{IsMfs};
 ghost use Rattle.uf_command.specs.Statuses.{no_memory};
 ghost use Rattle.uf_command.specs.declared.types.Command.TheVariants as commands;
+ghost use Rattle.uf_command.specs.declared.types.Adding.TheVariants as adding;
 ghost use Rattle.uf_store.specs.Calls.{OnlySaves};
 ghost use Rattle.uf_store.specs.Faults.{NoneIsBad};
 ghost use Rattle.uf_tree.specs.Profiles.{is_profile};
@@ -43,7 +44,7 @@ pub fn add_to<S: Store, N: NameHash, I: Source, L: Ledger>(
     input: &mut I,
     touches: &mut Steps<L>,
 ) -> Result<Block, Refusal>
-    ensures { OverInput I.Source (Makes S.X.block32 N.name64 (commands.AddTo dest.now) result)
+    ensures { OverInput I.Source (Makes S.X.block32 N.name64 (commands.Add (adding.InputTo dest.now)) result)
         (S.seen store.old) input.old touches.old (S.seen store.new) input.new touches.new }
 {
     let found = find::<S, N, L>(alloc, dest, None, store, touches)?;
@@ -61,7 +62,8 @@ pub fn add_from_to<S: Store, N: NameHash, W: Host, L: Ledger>(
     host: &mut W,
     touches: &mut Steps<L>,
 ) -> Result<Block, Refusal>
-    ensures { OverHost W.Host (Makes S.X.block32 N.name64 (commands.AddFromTo recursive path.now dest.now) result)
+    ensures { OverHost W.Host
+        (Makes S.X.block32 N.name64 (commands.Add (adding.HostTo recursive path.now dest.now)) result)
         (S.seen store.old) touches.old host.old (S.seen store.new) touches.new host.new }
 {
     let found = find::<S, N, L>(alloc, dest, Some(path), store, touches)?;

@@ -1,12 +1,14 @@
-use Rattle.std.proofs.Common.{◌≡◌, ◌∙◌, ℕ, List, Bool, false, true, ap, refl, sym, subst}
+use Rattle.std.proofs.Common.{◌≡◌, ◌∙◌, Ok, false, true, ap, refl, sym, subst}
 use Rattle.std.specs.Prelude.{IfErr}
 use Rattle.uf_command.specs.Natures.{generates, own_store, reads_input, reads_tree_alone, touches_nothing, uses_host}
-use Rattle.uf_command.specs.declared.types.Command.TheVariants.{Init, Add, AddFrom, AddTo, AddFromTo, WriteInput, At, Adopt, Cat, Export, Get, Import, Pin, Prove, Read, Same}
+use Rattle.uf_command.specs.declared.types.Adding.{Adding}
+use Rattle.uf_command.specs.declared.types.Command.TheVariants.{Init, Add, WriteInput, At, Adopt, Cat, Export, Get, Import, Pin, Prove, Read, Same}
+use Rattle.uf_command.specs.declared.types.Adding.TheVariants as adding
 use Rattle.uf_command.specs.declared.types.PinAsk.{PinAsk}
 use Rattle.uf_command.specs.declared.types.PinAsk.TheVariants as pins
 use Rattle.uf_top.specs.Around.{around, host_side}
 use Rattle.uf_top.specs.Cars.{ByOwnStore}
-use Rattle.uf_top.specs.Working.{Does, Makes}
+use Rattle.uf_top.specs.Working.{Does, Makes, Spares}
 use Rattle.uf_top.proofs.Printing.{said-does}
 use Rattle.uf_top.proofs.Serving.{alone-given, alone-spares, spares-own}
 use Rattle.uf_top.proofs.command.carry_out.Goals as goal
@@ -17,14 +19,12 @@ only-lists (pins.Add cid) e = absurd cc
 only-lists (pins.Remove cid) e = absurd cc
 only-lists pins.List e = refl
 
--- what counts no touch is only hashed
-only-hashed : (only_hash : Bool) → touches_nothing (Add only_hash) ≡ true → only_hash ≡ true
-only-hashed true e = refl
-only-hashed false e = absurd cc
-
-only-hashed-from : (recursive only_hash : Bool) (path : List ℕ) → touches_nothing (AddFrom recursive only_hash path) ≡ true → only_hash ≡ true
-only-hashed-from recursive true path e = refl
-only-hashed-from recursive false path e = absurd cc
+-- what is added goes by the tree that the Head names alone
+adds-alone : (what : Adding) → reads_tree_alone (Add what) ≡ true
+adds-alone (adding.Input only_hash) = refl
+adds-alone (adding.Host recursive only_hash path) = refl
+adds-alone (adding.InputTo dest) = refl
+adds-alone (adding.HostTo recursive path dest) = refl
 
 pub returns-in-Init : goal.returns-in-Init
 returns-in-Init g c =
@@ -52,83 +52,18 @@ returns-in-Add g c =
     let l = g.I.Source.left c.args.input.now in let i = g.I.Source.faults c.args.input.now in
     let h = g.O.Sink.holds c.args.output.now in let w = g.O.Sink.faults c.args.output.now in
     let s = (host_side (g.W.Host.tree c.args.host.now) (g.W.Host.read_faults c.args.host.now) (g.W.Host.write_faults c.args.host.now)) in
-    let alone : reads_tree_alone c.args.command.now ≡ true = ap reads_tree_alone c.in-Add.is in
-    let does = said-does g.S.X.BlockHash.block32 g.N.NameHash.name64 c.args.command.now alone (g.S.Store.seen c.args.store.now) (g.S.Store.seen c.adds.new.store)
-    l (g.I.Source.left c.adds.new.input) i (g.I.Source.faults c.adds.new.input) c.args.touches.now c.adds.new.touches h w s s c.adds.result
-    (subst (λ command. Makes g.S.X.BlockHash.block32 g.N.NameHash.name64 command c.adds.result (around (g.S.Store.seen c.args.store.now) l i h w c.args.touches.now s) (around (g.S.Store.seen c.adds.new.store) (g.I.Source.left c.adds.new.input) (g.I.Source.faults c.adds.new.input) h w c.adds.new.touches s)) (sym c.in-Add.is) (c.adds.ensures.works g.N.NameHash.name64 h w s))
+    let m = g.I.Source.left c.adds-rows.new.input in let j = g.I.Source.faults c.adds-rows.new.input in
+    let t = (host_side (g.W.Host.tree c.adds-rows.new.host) (g.W.Host.read_faults c.adds-rows.new.host) (g.W.Host.write_faults c.adds-rows.new.host)) in
+    let alone : reads_tree_alone c.args.command.now ≡ true = ap reads_tree_alone c.in-Add.is ∙ adds-alone c.in-Add.adding in
+    let does = said-does g.S.X.BlockHash.block32 g.N.NameHash.name64 c.args.command.now alone (g.S.Store.seen c.args.store.now) (g.S.Store.seen c.adds-rows.new.store)
+    l m i j c.args.touches.now c.adds-rows.new.touches h w s t c.adds-rows.result
+    (subst (λ command. Makes g.S.X.BlockHash.block32 g.N.NameHash.name64 command c.adds-rows.result (around (g.S.Store.seen c.args.store.now) l i h w c.args.touches.now s) (around (g.S.Store.seen c.adds-rows.new.store) m j h w c.adds-rows.new.touches t)) (sym c.in-Add.is) (c.adds-rows.ensures.makes h w))
     (g.O.Sink.holds c.say-in-Add.new.output) (g.O.Sink.faults c.say-in-Add.new.output) c.say-in-Add.result c.say-in-Add.ensures in
     record {
       does = does;
-      own = spares-own g.S.X.BlockHash.block32 l (g.S.Store.seen c.args.store.now) (g.S.Store.seen c.adds.new.store) c.args.command.now c.say-in-Add.result (alone-spares c.args.command.now alone) does.kinds;
-      spares = record {
-        left = λ e. absurd (alone-given c.args.command.now alone e);
-        input = λ e. absurd (let k : reads_input (Add c.in-Add.only_hash) ≡ false = ap reads_input (sym c.in-Add.is) ∙ e in cc);
-        host = λ e. refl;
-        untouched = λ e. c.adds.ensures.untouched (only-hashed c.in-Add.only_hash (ap touches_nothing (sym c.in-Add.is) ∙ e));
-      };
-    }
-
-pub returns-in-AddFrom : goal.returns-in-AddFrom
-returns-in-AddFrom g c =
-    let l = g.I.Source.left c.args.input.now in let i = g.I.Source.faults c.args.input.now in
-    let h = g.O.Sink.holds c.args.output.now in let w = g.O.Sink.faults c.args.output.now in
-    let s = (host_side (g.W.Host.tree c.args.host.now) (g.W.Host.read_faults c.args.host.now) (g.W.Host.write_faults c.args.host.now)) in
-    let alone : reads_tree_alone c.args.command.now ≡ true = ap reads_tree_alone c.in-AddFrom.is in
-    let does = said-does g.S.X.BlockHash.block32 g.N.NameHash.name64 c.args.command.now alone (g.S.Store.seen c.args.store.now) (g.S.Store.seen c.add_from-rows.new.store)
-    l l i i c.args.touches.now c.add_from-rows.new.touches h w s (host_side (g.W.Host.tree c.add_from-rows.new.host) (g.W.Host.read_faults c.add_from-rows.new.host) (g.W.Host.write_faults c.add_from-rows.new.host)) c.add_from-rows.result
-    (subst (λ command. Makes g.S.X.BlockHash.block32 g.N.NameHash.name64 command c.add_from-rows.result (around (g.S.Store.seen c.args.store.now) l i h w c.args.touches.now s) (around (g.S.Store.seen c.add_from-rows.new.store) l i h w c.add_from-rows.new.touches (host_side (g.W.Host.tree c.add_from-rows.new.host) (g.W.Host.read_faults c.add_from-rows.new.host) (g.W.Host.write_faults c.add_from-rows.new.host)))) (sym c.in-AddFrom.is) (c.add_from-rows.ensures.works l i h w))
-    (g.O.Sink.holds c.say-in-AddFrom.new.output) (g.O.Sink.faults c.say-in-AddFrom.new.output) c.say-in-AddFrom.result c.say-in-AddFrom.ensures in
-    record {
-      does = does;
-      own = spares-own g.S.X.BlockHash.block32 l (g.S.Store.seen c.args.store.now) (g.S.Store.seen c.add_from-rows.new.store) c.args.command.now c.say-in-AddFrom.result (alone-spares c.args.command.now alone) does.kinds;
-      spares = record {
-        left = λ e. absurd (alone-given c.args.command.now alone e);
-        input = λ e. refl;
-        host = λ e. absurd (let k : uses_host (AddFrom c.in-AddFrom.recursive c.in-AddFrom.only_hash c.in-AddFrom.path) ≡ false = ap uses_host (sym c.in-AddFrom.is) ∙ e in cc);
-        untouched = λ e. c.add_from-rows.ensures.untouched (only-hashed-from c.in-AddFrom.recursive c.in-AddFrom.only_hash c.in-AddFrom.path (ap touches_nothing (sym c.in-AddFrom.is) ∙ e));
-      };
-    }
-
-pub returns-in-AddTo : goal.returns-in-AddTo
-returns-in-AddTo g c =
-    let l = g.I.Source.left c.args.input.now in let i = g.I.Source.faults c.args.input.now in
-    let h = g.O.Sink.holds c.args.output.now in let w = g.O.Sink.faults c.args.output.now in
-    let s = (host_side (g.W.Host.tree c.args.host.now) (g.W.Host.read_faults c.args.host.now) (g.W.Host.write_faults c.args.host.now)) in
-    let alone : reads_tree_alone c.args.command.now ≡ true = ap reads_tree_alone c.in-AddTo.is in
-    let does = said-does g.S.X.BlockHash.block32 g.N.NameHash.name64 c.args.command.now alone (g.S.Store.seen c.args.store.now) (g.S.Store.seen c.add_to.new.store)
-    l (g.I.Source.left c.add_to.new.input) i (g.I.Source.faults c.add_to.new.input) c.args.touches.now c.add_to.new.touches h w s s c.add_to.result
-    (subst (λ command. Makes g.S.X.BlockHash.block32 g.N.NameHash.name64 command c.add_to.result (around (g.S.Store.seen c.args.store.now) l i h w c.args.touches.now s) (around (g.S.Store.seen c.add_to.new.store) (g.I.Source.left c.add_to.new.input) (g.I.Source.faults c.add_to.new.input) h w c.add_to.new.touches s)) (sym c.in-AddTo.is) (c.add_to.ensures h w s))
-    (g.O.Sink.holds c.say-in-AddTo.new.output) (g.O.Sink.faults c.say-in-AddTo.new.output) c.say-in-AddTo.result c.say-in-AddTo.ensures in
-    record {
-      does = does;
-      own = spares-own g.S.X.BlockHash.block32 l (g.S.Store.seen c.args.store.now) (g.S.Store.seen c.add_to.new.store) c.args.command.now c.say-in-AddTo.result (alone-spares c.args.command.now alone) does.kinds;
-      spares = record {
-        left = λ e. absurd (alone-given c.args.command.now alone e);
-        input = λ e. absurd (let k : reads_input (AddTo c.in-AddTo.dest) ≡ false = ap reads_input (sym c.in-AddTo.is) ∙ e in cc);
-        host = λ e. refl;
-        untouched = λ e. absurd (let k : touches_nothing (AddTo c.in-AddTo.dest) ≡ true = ap touches_nothing (sym c.in-AddTo.is) ∙ e in cc);
-      };
-    }
-
-pub returns-in-AddFromTo : goal.returns-in-AddFromTo
-returns-in-AddFromTo g c =
-    let l = g.I.Source.left c.args.input.now in let i = g.I.Source.faults c.args.input.now in
-    let h = g.O.Sink.holds c.args.output.now in let w = g.O.Sink.faults c.args.output.now in
-    let s = (host_side (g.W.Host.tree c.args.host.now) (g.W.Host.read_faults c.args.host.now) (g.W.Host.write_faults c.args.host.now)) in
-    let alone : reads_tree_alone c.args.command.now ≡ true = ap reads_tree_alone c.in-AddFromTo.is in
-    let does = said-does g.S.X.BlockHash.block32 g.N.NameHash.name64 c.args.command.now alone (g.S.Store.seen c.args.store.now) (g.S.Store.seen c.add_from_to-rows.new.store)
-    l l i i c.args.touches.now c.add_from_to-rows.new.touches h w s (host_side (g.W.Host.tree c.add_from_to-rows.new.host) (g.W.Host.read_faults c.add_from_to-rows.new.host) (g.W.Host.write_faults c.add_from_to-rows.new.host)) c.add_from_to-rows.result
-    (subst (λ command. Makes g.S.X.BlockHash.block32 g.N.NameHash.name64 command c.add_from_to-rows.result (around (g.S.Store.seen c.args.store.now) l i h w c.args.touches.now s) (around (g.S.Store.seen c.add_from_to-rows.new.store) l i h w c.add_from_to-rows.new.touches (host_side (g.W.Host.tree c.add_from_to-rows.new.host) (g.W.Host.read_faults c.add_from_to-rows.new.host) (g.W.Host.write_faults c.add_from_to-rows.new.host)))) (sym c.in-AddFromTo.is) (c.add_from_to-rows.ensures l i h w))
-    (g.O.Sink.holds c.say-in-AddFromTo.new.output) (g.O.Sink.faults c.say-in-AddFromTo.new.output) c.say-in-AddFromTo.result c.say-in-AddFromTo.ensures in
-    record {
-      does = does;
-      own = spares-own g.S.X.BlockHash.block32 l (g.S.Store.seen c.args.store.now) (g.S.Store.seen c.add_from_to-rows.new.store) c.args.command.now c.say-in-AddFromTo.result (alone-spares c.args.command.now alone) does.kinds;
-      spares = record {
-        left = λ e. absurd (alone-given c.args.command.now alone e);
-        input = λ e. refl;
-        host = λ e. absurd (let k : uses_host (AddFromTo c.in-AddFromTo.recursive c.in-AddFromTo.path c.in-AddFromTo.dest) ≡ false = ap uses_host (sym c.in-AddFromTo.is) ∙ e in cc);
-        untouched = λ e. absurd (let k : touches_nothing (AddFromTo c.in-AddFromTo.recursive c.in-AddFromTo.path c.in-AddFromTo.dest) ≡ true = ap touches_nothing (sym c.in-AddFromTo.is) ∙ e in cc);
-      };
+      own = spares-own g.S.X.BlockHash.block32 l (g.S.Store.seen c.args.store.now) (g.S.Store.seen c.adds-rows.new.store) c.args.command.now c.say-in-Add.result (alone-spares c.args.command.now alone) does.kinds;
+      spares = subst (λ command. Spares (Ok command) c.args.store.now c.adds-rows.new.store c.args.input.now c.adds-rows.new.input c.args.host.now c.adds-rows.new.host c.args.touches.now c.adds-rows.new.touches)
+          (sym c.in-Add.is) c.adds-rows.ensures.spares;
     }
 
 pub returns-in-WriteInput : goal.returns-in-WriteInput
