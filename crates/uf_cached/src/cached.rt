@@ -1,6 +1,6 @@
 //! One command over a store with a cache.
 ghost use Rattle.std.specs.Prelude.{◌≡◌, Bool, false, map, string_bytes, true};
-ghost use Rattle.uf_cache.specs.Cached.{cached_seen};
+ghost use Rattle.uf_cache.specs.Cached.{cached_seen as seen};
 ghost use Rattle.uf_mfs.specs.Standing.{TellsAs};
 ghost use Rattle.uf_command.specs.Commands.{of_command};
 ghost use Rattle.uf_command.specs.Natures.{generates, reads_input, touches_nothing, uses_host};
@@ -9,7 +9,7 @@ ghost use Rattle.uf_command.specs.declared.requests.Request.TheVariants as reque
 ghost use Rattle.uf_command.specs.declared.types.Command.{Command as TheCommand};
 ghost use Rattle.uf_command.specs.declared.types.Refusal.{Refusal as TheRefusal};
 ghost use Rattle.std.specs.declared.result.Result.{Result as TheResult};
-ghost use Rattle.uf_top.specs.Lent.{SaidTo, around_at, scene_at};
+ghost use Rattle.uf_top.specs.Lent.{lent};
 ghost use Rattle.uf_top.specs.Batch.{Batches};
 ghost use Rattle.uf_top.specs.Checking.{RunsCheck};
 ghost use Rattle.uf_top.specs.Collecting.{RunsGc};
@@ -43,34 +43,32 @@ pub fn run_cached<S: Sweep, N: NameHash, W: Host, I: Source, O: Sink, E: Sink, L
     // What `run` says, over the store with its cache.
     ensures runs { (asked : TheResult TheCommand TheRefusal)
         → request_in (map string_bytes words.now) ≡ requests.One asked
-        → Runs (SaidTo E.Sink errors.old errors.new) S.X.block32 N.name64 asked result
-        (around_at I.Source O.Sink W.Host (cached_seen store.old) input.old output.old touches.old host.old)
-        (around_at I.Source O.Sink W.Host (cached_seen store.new) input.new output.new touches.new host.new) }
+        → Runs S.X.block32 N.name64 asked result
+        (lent I.Source O.Sink W.Host E.Sink (seen store.old) input.old output.old touches.old host.old errors.old)
+        (lent I.Source O.Sink W.Host E.Sink (seen store.new) input.new output.new touches.new host.new errors.new) }
     ensures batch { request_in (map string_bytes words.now) ≡ requests.Batch
         → Batches S.X.block32 N.name64 1048576 1073741824 result
-        (scene_at I.Source O.Sink W.Host E.Sink (cached_seen store.old) input.old output.old touches.old host.old
-        errors.old)
-        (scene_at I.Source O.Sink W.Host E.Sink (cached_seen store.new) input.new output.new touches.new host.new
-        errors.new) }
+        (lent I.Source O.Sink W.Host E.Sink (seen store.old) input.old output.old touches.old host.old errors.old)
+        (lent I.Source O.Sink W.Host E.Sink (seen store.new) input.new output.new touches.new host.new errors.new) }
     ensures pull { (cid : TheCid) → request_in (map string_bytes words.now) ≡ requests.Pull cid
-        → RunsPull (SaidTo E.Sink errors.old errors.new) S.X.block32 N.name64 cid result
-        (around_at I.Source O.Sink W.Host (cached_seen store.old) input.old output.old touches.old host.old)
-        (around_at I.Source O.Sink W.Host (cached_seen store.new) input.new output.new touches.new host.new) }
+        → RunsPull S.X.block32 N.name64 cid result
+        (lent I.Source O.Sink W.Host E.Sink (seen store.old) input.old output.old touches.old host.old errors.old)
+        (lent I.Source O.Sink W.Host E.Sink (seen store.new) input.new output.new touches.new host.new errors.new) }
     ensures serve { request_in (map string_bytes words.now) ≡ requests.Serve
-        → RunsServe (SaidTo E.Sink errors.old errors.new) S.X.block32 N.name64 result
-        (around_at I.Source O.Sink W.Host (cached_seen store.old) input.old output.old touches.old host.old)
-        (around_at I.Source O.Sink W.Host (cached_seen store.new) input.new output.new touches.new host.new) }
+        → RunsServe S.X.block32 N.name64 result
+        (lent I.Source O.Sink W.Host E.Sink (seen store.old) input.old output.old touches.old host.old errors.old)
+        (lent I.Source O.Sink W.Host E.Sink (seen store.new) input.new output.new touches.new host.new errors.new) }
     ensures collect { request_in (map string_bytes words.now) ≡ requests.Gc
-        → RunsGc (SaidTo E.Sink errors.old errors.new) S.X.block32 N.name64 result
-        (around_at I.Source O.Sink W.Host (cached_seen store.old) input.old output.old touches.old host.old)
-        (around_at I.Source O.Sink W.Host (cached_seen store.new) input.new output.new touches.new host.new) }
+        → RunsGc S.X.block32 N.name64 result
+        (lent I.Source O.Sink W.Host E.Sink (seen store.old) input.old output.old touches.old host.old errors.old)
+        (lent I.Source O.Sink W.Host E.Sink (seen store.new) input.new output.new touches.new host.new errors.new) }
     ensures check { (absent : Bool) (cid : TheCid) (path : ThePath)
         → request_in (map string_bytes words.now) ≡ requests.Check absent cid path
-        → RunsCheck (SaidTo E.Sink errors.old errors.new) S.X.block32 N.name64 absent cid path.names result
-        (around_at I.Source O.Sink W.Host (cached_seen store.old) input.old output.old touches.old host.old)
-        (around_at I.Source O.Sink W.Host (cached_seen store.new) input.new output.new touches.new host.new) }
-    ensures one { (standing other : Standing) → TellsAs S.X.block32 N.name64 (cached_seen store.new).told standing
-        → TellsAs S.X.block32 N.name64 (cached_seen store.new).told other → standing ≡ other }
+        → RunsCheck S.X.block32 N.name64 absent cid path.names result
+        (lent I.Source O.Sink W.Host E.Sink (seen store.old) input.old output.old touches.old host.old errors.old)
+        (lent I.Source O.Sink W.Host E.Sink (seen store.new) input.new output.new touches.new host.new errors.new) }
+    ensures one { (standing other : Standing) → TellsAs S.X.block32 N.name64 (seen store.new).told standing
+        → TellsAs S.X.block32 N.name64 (seen store.new).told other → standing ≡ other }
     ensures left { (asked : TheResult TheCommand TheRefusal)
         → request_in (map string_bytes words.now) ≡ requests.One asked
         → of_command generates true asked ≡ true → store.new ≡ store.old }

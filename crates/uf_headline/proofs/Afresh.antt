@@ -56,7 +56,7 @@ module _ (X : List ℕ → List ℕ) (N : List ℕ → ℕ) where
   added-ends w recursive path p t (Stands q fs) is there = ap (λ r. (hosted X N (Stands q fs) (λ t. []) path q r).ends) (subst (λ q. tree_on_host X N q w.host recursive path ≡ Ok t) is there) ∙ ap (λ q. Ok (host_text X N q path t)) (sym is)
 
   pub afresh-prints : (step : Step) (s : Standing) (path : List ℕ) (p : Profile) (t : Tree) → AddsAfresh X N step s path p t → PrintsLast step path (entry X N p t).cid
-  afresh-prints step s path p t a = (last.0, printed ∙ ap (after step.before.around.held) last.1)
+  afresh-prints step s path p t a = (last.0, printed ∙ ap (after step.before.held) last.1)
     where
       name : List ℕ
       name = first_row (trimmed path)
@@ -70,13 +70,13 @@ module _ (X : List ℕ → List ℕ) (N : List ℕ → ℕ) where
       ends : (reply_to X N step.asked w).ends ≡ Ok (host_text X N p path t)
       ends = ap (λ x. (reply_to X N x w).ends) a.asked ∙ added-ends w a.recursive path p t s a.profile a.there
 
-      printed : step.now.around.held ≡ after step.before.around.held (host_text X N p path t)
-      printed = subst (λ r. PrintsAll r step.before.around.held step.now.around.held) ends (replied X N step a.done s a.stood).printed
+      printed : step.now.held ≡ after step.before.held (host_text X N p path t)
+      printed = subst (λ r. PrintsAll r step.before.held step.now.held) ends (replied X N step a.done s a.stood).printed
 
   -- ---- what is said of a path
 
   pub stat-prints : (step : Step) (told : Told) (path : Path) (p : Profile) (es : Entries) (t : Tree) → TellsAs X N told (Stands p es) → at 0 path.names (Dir es) ≡ Ok t → StatsAt X N told step path → PrintsFirst step (entry X N p t).cid
-  stat-prints step told path p es t stands there s = (rest, printed ∙ ap (after step.before.around.held) said)
+  stat-prints step told path p es t stands there s = (rest, printed ∙ ap (after step.before.held) said)
     where
       stat : Stat
       stat = stat_of X N p t
@@ -94,6 +94,6 @@ module _ (X : List ℕ → List ℕ) (N : List ℕ → ℕ) where
       ends : (reply_to X N step.asked w).ends ≡ Ok (stat_text stat)
       ends = ap (λ x. (reply_to X N x w).ends) s.asked ∙ ap (λ r. (looked (Stands p es) path.names (λ t. stat_text (stat_of X N p t)) r).ends) there
 
-      printed : step.now.around.held ≡ after step.before.around.held (stat_text stat)
-      printed = subst (λ r. PrintsAll r step.before.around.held step.now.around.held) ends
+      printed : step.now.held ≡ after step.before.held (stat_text stat)
+      printed = subst (λ r. PrintsAll r step.before.held step.now.held) ends
           (replied X N step s.done (Stands p es) (subst (λ x. TellsAs X N x (Stands p es)) (sym s.over) stands)).printed

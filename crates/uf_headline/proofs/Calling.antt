@@ -27,7 +27,6 @@ use Rattle.uf_store.specs.declared.store.StoreFault.{StoreFault}
 use Rattle.uf_store.specs.declared.store.StoreFault.TheVariants as fault
 use Rattle.uf_store.specs.declared.store.Write.{Write}
 use Rattle.uf_top.specs.Around.{HasOutside, StandsOrRose, StaysQuiet}
-use Rattle.uf_top.specs.Batch.{Said}
 use Rattle.uf_top.specs.Endings.{may_move}
 use Rattle.uf_top.specs.Losing.{EndsOver}
 use Rattle.uf_top.proofs.Ran.{words_need}
@@ -85,21 +84,21 @@ module _ (X : List ℕ → List ℕ) (N : List ℕ → ℕ) where
 
     -- where the answer is one that no failure gives, nothing has failed
     module _ (g : Status) (given : Given g) (store : g ≡ status.StoreFault → ⊥) (clash : g ≡ status.Clash → ⊥) (memory : g ≡ status.Memory → ⊥) where
-      calm : Calm step.before.around.store step.now.around.store
+      calm : Calm step.before.store step.now.store
       calm = record {
         faults = stood-still _ _ (step-ran X N step c.runs).faults.counted.store.faults (λ more. not-both step.given g status.StoreFault given ((step-ran X N step c.runs).faults.store more) store) c.tells.store.faults;
         clashes = stood-still _ _ (step-ran X N step c.runs).faults.counted.store.clashes (λ more. not-one step.given g status.Clash status.Memory given clash memory ((step-ran X N step c.runs).faults.clashes more)) c.tells.store.clashes;
       }
 
       module _ (read : g ≡ status.ReadFault → ⊥) where
-        outside : HasOutside step.asked step.outside step.before.around step.now.around
+        outside : HasOutside step.asked step.outside step.before step.now
         outside = (
           λ reads. ((c.tells.input reads).0, stood-still _ _ (step-ran X N step c.runs).faults.counted.reads (λ more. not-both step.given g status.ReadFault given ((step-ran X N step c.runs).faults.reads (inl more)) read) (c.tells.input reads).1),
           λ uses. ((c.tells.host uses).0, stood-still _ _ (step-ran X N step c.runs).faults.counted.host_reads (λ more. not-both step.given g status.ReadFault given ((step-ran X N step c.runs).faults.reads (inr more)) read) (c.tells.host uses).1),
           c.tells.pins,
         )
 
-        quiet : (g ≡ status.WriteFault → ⊥) → StaysQuiet step.asked step.given step.before.around step.now.around
+        quiet : (g ≡ status.WriteFault → ⊥) → StaysQuiet step.asked step.given step.before step.now
         quiet write = record {
           store = calm;
           written = record {
@@ -109,10 +108,10 @@ module _ (X : List ℕ → List ℕ) (N : List ℕ → ℕ) where
           own = λ generates is. not-both step.given g status.Clash given is clash;
         }
 
-    ok-quiet : Given status.Ok → StaysQuiet step.asked step.given step.before.around step.now.around
+    ok-quiet : Given status.Ok → StaysQuiet step.asked step.given step.before step.now
     ok-quiet given = quiet status.Ok given (λ e. cc) (λ e. cc) (λ e. cc) (λ e. cc) (λ e. cc)
 
-    ok-outside : Given status.Ok → HasOutside step.asked step.outside step.before.around step.now.around
+    ok-outside : Given status.Ok → HasOutside step.asked step.outside step.before step.now
     ok-outside given = outside status.Ok given (λ e. cc) (λ e. cc) (λ e. cc) (λ e. cc)
 
     -- a call that was done is a step in which nothing failed
@@ -295,7 +294,7 @@ module _ (X : List ℕ → List ℕ) (N : List ℕ → ℕ) where
         rows : (rows : ℕ → ℕ) × AreHeights p rows
         rows = heights-of p names.root.plan.profile
 
-        by : EndsOver X N (told_before step) (told_after step) p es (words_need X N rows.0 step.asked p es) (Said step.before.errors step.now.errors) (reply_to X N step.asked (in_world p es step.held step.outside)) step.given step.before.around.held step.now.around.held
+        by : EndsOver X N p es (words_need X N rows.0 step.asked p es) (reply_to X N step.asked (in_world p es step.held step.outside)) step.given step.before step.now
             → NamesTree X N (told_after step) (replied_by X N step.asked step.outside step.held (Stands p es))
         by (inl loss) = absurd (fault-not-ok loss.fault (sym given ∙ loss.status_is))
         by (inr replies) = subst (NamesTree X N (told_after step)) (reply-next X N step.asked step.outside step.held (Stands p es)) (named-now (told_before step) (told_after step) (tree_blocks X N p (Dir es)) (reply_to X N step.asked (in_world p es step.held step.outside)).next replies.stands)

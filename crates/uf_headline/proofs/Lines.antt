@@ -11,8 +11,8 @@ use Rattle.uf_command.specs.declared.status.Status.{Status}
 use Rattle.uf_command.specs.declared.status.Status.TheVariants as status
 use Rattle.uf_store.specs.Contents.{Told, held_at}
 use Rattle.uf_store.specs.Keeping.{tells}
-use Rattle.uf_top.specs.Around.{Around, StandsOrRose}
-use Rattle.uf_top.specs.Batch.{AtLine, Batches, ByMemory, ByReading, EndsSo, Ending, LineDone, LinePassed, LinesDone, Scene, TooLong, WithInput, with_sinks, without_input}
+use Rattle.uf_top.specs.Around.{Around, StandsOrRose, SameButErrors}
+use Rattle.uf_top.specs.Batch.{AtLine, Batches, ByMemory, ByReading, EndsSo, Ending, LineDone, LinePassed, LinesDone, TooLong, WithInput, without_input}
 use Rattle.uf_top.specs.BatchLines.{AllCanRise}
 use Rattle.uf_top.specs.Naming.{TellsBlocks}
 use Rattle.uf_top.proofs.LineHosts.{Suits, asks-suits}
@@ -21,6 +21,7 @@ use Rattle.uf_top.proofs.Ran.{line-ran}
 use Rattle.uf_headline.specs.Batched.{AreCallsOf, IsOfLine, outside_line, with_last}
 use Rattle.uf_headline.specs.Calls.{Calls, IsCall}
 use Rattle.uf_headline.specs.History.{Step, step_of, told_after, told_before}
+use Rattle.uf_top.proofs.Counted.{but-errors, with_sinks}
 
 -- ---- counts that can rise still
 
@@ -45,27 +46,27 @@ held-here (Some t) some = (held_at t, refl)
 
 module _ (X : List ℕ → List ℕ) (N : List ℕ → ℕ) (host : HostTree) where
   -- what a line begins over
-  record Begins (a : Scene) : Type 0 where
-    told : a.around.host.told ≡ Some host
-    room : AllCanRise a.around
-    some : tells a.around.store.told ≡ true
+  record Begins (a : Around) : Type 0 where
+    told : a.host.told ≡ Some host
+    room : AllCanRise a
+    some : tells a.store.told ≡ true
 
   -- the call of a line
-  record CallOf (line : List ℕ) (a b : Scene) : Type 0 where
+  record CallOf (line : List ℕ) (a b : Around) : Type 0 where
     step : Step
-    first : told_before step ≡ a.around.store.told
-    last : told_after step ≡ b.around.store.told
+    first : told_before step ≡ a.store.told
+    last : told_after step ≡ b.store.told
     call : IsCall X N step
     of : IsOfLine line step
     outside : step.outside ≡ outside_line host step.outside.pins
 
-  module _ (line : List ℕ) (given : Status) (a b : Scene) (done : LineDone X N line given a b) (begin : Begins a) where
+  module _ (line : List ℕ) (given : Status) (a b : Around) (done : LineDone X N line given a b) (begin : Begins a) where
     suits : Suits done.asked
     suits = asks-suits line done.asked done.asks
 
     line-call : CallOf line a b
     line-call = record {
-      step = step_of done.asked (outside_line host (noted-pins a.around.store.told).0) held.0 given a b;
+      step = step_of done.asked (outside_line host (noted-pins a.store.told).0) held.0 given a b;
       first = refl;
       last = refl;
       call = record {
@@ -77,15 +78,15 @@ module _ (X : List ℕ → List ℕ) (N : List ℕ → ℕ) (host : HostTree) wh
           host = λ uses. (begin.told, begin.room.host);
           output = begin.room.output;
           written = λ writes. absurd (let e : true ≡ false = sym writes ∙ suits.1 in cc);
-          pins = λ uses. (noted-pins a.around.store.told).1;
+          pins = λ uses. (noted-pins a.store.told).1;
         };
       };
       of = done.asks;
       outside = refl;
     }
       where
-        held : (held : Lookup) × TellsBlocks a.around.store.told held
-        held = held-here a.around.store.told begin.some
+        held : (held : Lookup) × TellsBlocks a.store.told held
+        held = held-here a.store.told begin.some
 
     either-not : (is other : Status) → (given ≡ is → ⊥) → (given ≡ other → ⊥) → (given ≡ is) ⊎ (given ≡ other) → ⊥
     either-not is other first second (inl same) = first same
@@ -108,36 +109,36 @@ module _ (X : List ℕ → List ℕ) (N : List ℕ → ℕ) (host : HostTree) wh
 
   -- ---- all lines
 
-  record CallsOf (lines : List (List ℕ)) (a b : Scene) : Type 0 where
+  record CallsOf (lines : List (List ℕ)) (a b : Around) : Type 0 where
     steps : List Step
-    calls : Calls X N steps a.around.store.told b.around.store.told
+    calls : Calls X N steps a.store.told b.store.told
     are : AreCallsOf host lines steps
 
-  no-calls : (a b : Scene) → b.around ≡ a.around → CallsOf [] a b
+  no-calls : (a b : Around) → SameButErrors a b → CallsOf [] a b
   no-calls a b same = record { steps = []; calls = ap (λ (x : Around). x.store.told) same; are = refl }
 
   -- a call in front of others
-  behind-call : (line : List ℕ) (lines : List (List ℕ)) (a m c b : Scene) → m.around.store.told ≡ c.around.store.told → CallOf line a m → CallsOf lines c b → CallsOf (line ∷ lines) a b
+  behind-call : (line : List ℕ) (lines : List (List ℕ)) (a m c b : Around) → m.store.told ≡ c.store.told → CallOf line a m → CallsOf lines c b → CallsOf (line ∷ lines) a b
   behind-call line lines a m c b between one rest = record {
     steps = one.step ∷ rest.steps;
-    calls = (one.first, one.call, subst (λ t. Calls X N rest.steps t b.around.store.told) (sym (one.last ∙ between)) rest.calls);
+    calls = (one.first, one.call, subst (λ t. Calls X N rest.steps t b.store.told) (sym (one.last ∙ between)) rest.calls);
     are = inr (one.step, rest.steps, refl, one.of, one.outside, rest.are);
   }
 
   -- a line without a word in front of others
-  behind-wordless : (line : List ℕ) (lines : List (List ℕ)) (a b : Scene) → line_in line ≡ None → CallsOf lines a b → CallsOf (line ∷ lines) a b
+  behind-wordless : (line : List ℕ) (lines : List (List ℕ)) (a b : Around) → line_in line ≡ None → CallsOf lines a b → CallsOf (line ∷ lines) a b
   behind-wordless line lines a b none rest = record { steps = rest.steps; calls = rest.calls; are = inl (none, rest.are) }
 
   -- where a line begins once the status of the one before was printed
-  begins-marked : (line : List ℕ) (a c : Scene) (p : LinePassed X N line a c) → Begins (with_sinks p.printed c.errors c) → Begins c
+  begins-marked : (line : List ℕ) (a c : Around) (p : LinePassed X N line a c) → Begins (with_sinks p.printed c.errors c) → Begins c
   begins-marked line a c p begin = record {
     told = begin.told;
     room = record { store = begin.room.store; output = subst CanRise (sym p.marked.counted) begin.room.output; host = begin.room.host };
     some = begin.some;
   }
 
-  ends-calls : (ending : Ending X N) (given : Status) (a b : Scene) → EndsSo X N ending given a b → Begins a → CallsOf (with_last X N [] ending) a b
-  ends-calls WithInput given a b e begin = no-calls a b (ap (λ (x : Scene). x.around) e.1)
+  ends-calls : (ending : Ending X N) (given : Status) (a b : Around) → EndsSo X N ending given a b → Begins a → CallsOf (with_last X N [] ending) a b
+  ends-calls WithInput given a b e begin = no-calls a b (but-errors e.1)
   ends-calls TooLong given a b e begin = no-calls a b e.same
   ends-calls ByReading given a b e begin = no-calls a b e.same
   ends-calls ByMemory given a b e begin = no-calls a b e.same
@@ -146,8 +147,8 @@ module _ (X : List ℕ → List ℕ) (N : List ℕ → ℕ) (host : HostTree) wh
   ends-calls (AtLine line) given a b (inr e) begin =
       behind-call line [] a (with_sinks e.printed e.between b) b b refl (line-call line e.was a (with_sinks e.printed e.between b) e.done begin) (no-calls b b refl)
 
-  module _ (ending : Ending X N) (given : Status) (m b : Scene) (ends : EndsSo X N ending given m b) where
-    lines-calls : (lines : List (List ℕ)) (a : Scene) → LinesDone X N lines a m → Begins a → CallsOf (with_last X N lines ending) a b
+  module _ (ending : Ending X N) (given : Status) (m b : Around) (ends : EndsSo X N ending given m b) where
+    lines-calls : (lines : List (List ℕ)) (a : Around) → LinesDone X N lines a m → Begins a → CallsOf (with_last X N lines ending) a b
     lines-calls [] a done begin = ends-calls ending given a b (subst (λ x. EndsSo X N ending given x b) done ends) begin
     lines-calls (line ∷ lines) a done begin =
         let c = done.0 in
@@ -158,8 +159,8 @@ module _ (X : List ℕ → List ℕ) (N : List ℕ → ℕ) (host : HostTree) wh
               (lines-calls lines c done.2 (begins-marked line a c p (begins-next line p.given a (with_sinks p.printed c.errors c) p.done begin p.goes_on)))
         ]
 
-  pub batch-calls : (most limit : ℕ) (given : Status) (a b : Scene) (did : Batches X N most limit given a b)
-      → tells a.around.store.told ≡ true → a.around.host.told ≡ Some host → AllCanRise a.around
-      → (steps : List Step) × Calls X N steps a.around.store.told b.around.store.told × AreCallsOf host (with_last X N did.lines did.ending) steps
+  pub batch-calls : (most limit : ℕ) (given : Status) (a b : Around) (did : Batches X N most limit given a b)
+      → tells a.store.told ≡ true → a.host.told ≡ Some host → AllCanRise a
+      → (steps : List Step) × Calls X N steps a.store.told b.store.told × AreCallsOf host (with_last X N did.lines did.ending) steps
   batch-calls most limit given a b did some told room =
       (let r = lines-calls did.ending given did.between (without_input b) did.ends did.lines (without_input a) did.done (record { told = told; room = record { store = room.store; output = room.output; host = room.host }; some = some }) in (r.steps, r.calls, r.are))

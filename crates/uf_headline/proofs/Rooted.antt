@@ -213,7 +213,7 @@ module _ (X : List ℕ → List ℕ) (N : List ℕ → ℕ) where
 
   -- ---- steps
 
-  done-by : (step : Step) → RanWell X N step → HasOutside step.asked step.outside step.before.around step.now.around → of_command writes_host false step.asked ≡ false → of_command generates false step.asked ≡ false
+  done-by : (step : Step) → RanWell X N step → HasOutside step.asked step.outside step.before step.now → of_command writes_host false step.asked ≡ false → of_command generates false step.asked ≡ false
       → IsDone X N step
   done-by step r outside host own = record {
     runs = r.runs;
@@ -235,7 +235,7 @@ module _ (X : List ℕ → List ℕ) (N : List ℕ → ℕ) where
       by : Keeps step.asked ⊎ Takes step.asked → TellsAs X N (told_after step) (after_step step s)
       by (inl k) = subst (TellsAs X N (told_after step)) (sym (left-kept step.given step.asked k step.outside step.held s))
           (stands-kept X N (told_before step) (told_after step) s (step-ran X N step r.runs).good (k.head X (is_done step.given) (told_before step) (told_after step) (step-ran X N step r.runs).writes) t)
-      by (inr m) = step-stands X N step (done-by step r (m.outside step.outside step.before.around step.now.around r.well.takes) m.host m.own) s t
+      by (inr m) = step-stands X N step (done-by step r (m.outside step.outside step.before step.now r.well.takes) m.host m.own) s t
 
   ran-new : (step : Step) → RanWell X N step → IsNew (head_in (told_before step)) → IsNew (head_in (told_after step))
   ran-new step r n = asked-new X step.asked (is_done step.given) (told_before step) (told_after step) (step-ran X N step r.runs).writes n
@@ -270,11 +270,11 @@ module _ (X : List ℕ → List ℕ) (N : List ℕ → ℕ) where
     where
       done : IsDone X N step
       done = done-by step r
-          (subst (λ x. HasOutside x step.outside step.before.around step.now.around) (sym asked) (λ e. nothing e, λ e. nothing e, λ e. nothing e))
+          (subst (λ x. HasOutside x step.outside step.before step.now) (sym asked) (λ e. nothing e, λ e. nothing e, λ e. nothing e))
           (ap (of_command writes_host false) asked) (ap (of_command generates false) asked)
 
   led-afresh : (step : Step) (s : Standing) (p : Profile) (recursive : Bool) (path : List ℕ) → LedTo X N tree_at (told_before step) s → TakesProfile s p → RanWell X N step
-      → step.asked ≡ Ok (Add (adding.Host recursive true path)) → step.given ≡ status.Ok → HostIs step.outside.host step.before.around step.now.around
+      → step.asked ≡ Ok (Add (adding.Host recursive true path)) → step.given ≡ status.Ok → HostIs step.outside.host step.before step.now
       → PrintsLast step path (root-of p (tree_on step.outside.host path))
   led-afresh step s p recursive path l is r asked given host =
       subst (λ t. PrintsLast step path (root-of p t)) (sym (on-host X N p step.outside.host recursive path there.0 there.1))
@@ -285,7 +285,7 @@ module _ (X : List ℕ → List ℕ) (N : List ℕ → ℕ) where
 
       done : IsDone X N step
       done = done-by step r
-          (subst (λ x. HasOutside x step.outside step.before.around step.now.around) (sym asked) (λ e. nothing e, λ e. host, λ e. nothing e))
+          (subst (λ x. HasOutside x step.outside step.before step.now) (sym asked) (λ e. nothing e, λ e. host, λ e. nothing e))
           (ap (of_command writes_host false) asked) (ap (of_command generates false) asked)
 
       answered : status.Ok ≡ ended (from_reply X N recursive true path step.outside.host s).ends
@@ -304,7 +304,7 @@ module _ (X : List ℕ → List ℕ) (N : List ℕ → ℕ) where
     runs = d.runs;
     well = record {
       held = d.well.held;
-      takes = takes-of step.asked step.outside step.before.around step.now.around d.well.outside;
+      takes = takes-of step.asked step.outside step.before step.now d.well.outside;
       calm = d.well.quiet.store;
       printed = d.well.quiet.written.output;
       memory = d.well.memory;

@@ -102,7 +102,7 @@ module _ (X : List ℕ → List ℕ) (N : List ℕ → ℕ) where
   pub record IsCall (step : Step) : Type 0 where
     pub runs : DidRun X N step
     pub held : TellsBlocks (told_before step) step.held
-    pub tells : CanTell step.asked step.outside step.before.around
+    pub tells : CanTell step.asked step.outside step.before
 
   -- calls one after the other
   abbrev pub Calls : List Step → Told → Told → Type 0

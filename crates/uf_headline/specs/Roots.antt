@@ -50,9 +50,9 @@ TakesFrom asked outside before now = ⊤
 -- output failed, no clash was met, and it wasn't out of memory
 pub record WentWell (step : Step) : Type 0 where
   pub held : TellsBlocks (told_before step) step.held
-  pub takes : TakesFrom step.asked step.outside step.before.around step.now.around
-  pub calm : Calm step.before.around.store step.now.around.store
-  pub printed : Stood step.before.around.writes step.now.around.writes
+  pub takes : TakesFrom step.asked step.outside step.before step.now
+  pub calm : Calm step.before.store step.now.store
+  pub printed : Stood step.before.writes step.now.writes
   pub memory : step.given ≢ status.Memory
 
 module _ (X : List ℕ → List ℕ) (N : List ℕ → ℕ) where
@@ -83,5 +83,5 @@ module _ (X : List ℕ → List ℕ) (N : List ℕ → ℕ) where
     pub afresh : (step : Step) (standing : Standing) (p : Profile) (recursive : Bool) (path : List ℕ)
         → LedTo found (told_before step) standing → TakesProfile standing p → RanWell step
         → step.asked ≡ Ok (Add (adding.Host recursive true path)) → step.given ≡ status.Ok
-        → HostIs step.outside.host step.before.around step.now.around
+        → HostIs step.outside.host step.before step.now
         → PrintsLast step path (root p (tree_on step.outside.host path))

@@ -5,7 +5,8 @@ ghost use Rattle.uf_mfs.specs.Standing.{TellsAs};
 ghost use Rattle.uf_command.specs.declared.status.Status.{Status as TheStatus};
 ghost use Rattle.uf_command.specs.declared.status.Status.TheVariants as status;
 ghost use Rattle.uf_store.specs.Keeping.{tells};
-ghost use Rattle.uf_top.specs.Batch.{Batches, Scene};
+ghost use Rattle.uf_top.specs.Around.{Around};
+ghost use Rattle.uf_top.specs.Batch.{Batches};
 ghost use Rattle.uf_top.specs.BatchLines.{AllCanRise};
 ghost use Rattle.uf_top.specs.BatchReplies.{NothingFails};
 ghost use Rattle.uf_tree.specs.Standing.{Standing};
@@ -19,10 +20,10 @@ ghost use Rattle.uf_headline.specs.History.{History, Step};
 /// input.
 pub fn a_batch_is_a_history()
     ensures { (X : List ℕ → List ℕ) (N : List ℕ → ℕ) (host : HostTree) (most limit : ℕ) (given : TheStatus)
-        (before now : Scene) (standing : Standing) → (did : Batches X N most limit given before now)
-        → before.around.host.told ≡ Some host → TellsAs X N before.around.store.told standing
-        → NothingFails before.around now.around → given ≢ status.Memory
-        → (steps : List Step) × History X N steps before.around.store.told now.around.store.told
+        (before now : Around) (standing : Standing) → (did : Batches X N most limit given before now)
+        → before.host.told ≡ Some host → TellsAs X N before.store.told standing
+        → NothingFails before now → given ≢ status.Memory
+        → (steps : List Step) × History X N steps before.store.told now.store.told
         × AreOfLines host (with_last X N did.lines did.ending) steps }
 {}
 
@@ -31,8 +32,8 @@ pub fn a_batch_is_a_history()
 /// ended it too, each with no input.
 pub fn a_batch_is_a_list_of_calls()
     ensures { (X : List ℕ → List ℕ) (N : List ℕ → ℕ) (host : HostTree) (most limit : ℕ) (given : TheStatus)
-        (before now : Scene) → (did : Batches X N most limit given before now)
-        → tells before.around.store.told ≡ true → before.around.host.told ≡ Some host → AllCanRise before.around
-        → (steps : List Step) × Calls X N steps before.around.store.told now.around.store.told
+        (before now : Around) → (did : Batches X N most limit given before now)
+        → tells before.store.told ≡ true → before.host.told ≡ Some host → AllCanRise before
+        → (steps : List Step) × Calls X N steps before.store.told now.store.told
         × AreCallsOf host (with_last X N did.lines did.ending) steps }
 {}

@@ -1,5 +1,5 @@
 -- What an `add` has printed, and no stop takes away.
-use Rattle.std.proofs.Common.{◌≡◌, ℕ, ◌<◌, ◌≤◌, List, Bool, true, false, arith, refl, sym, subst, inl, inr, None, Some, Result, Ok}
+use Rattle.std.proofs.Common.{◌≡◌, ℕ, ◌<◌, ◌≤◌, List, Bool, false, arith, refl, sym, subst, inl, inr, None, Some, Ok}
 use Rattle.std.proofs.lemmas.Bool.{cases_lt}
 use Rattle.std.specs.FinMap.{empty}
 use Rattle.std.specs.Prelude.{◌⊎◌}
@@ -19,7 +19,6 @@ use Rattle.uf_command.specs.declared.types.Command.{Command}
 use Rattle.uf_command.specs.Cars.{most_car}
 use Rattle.uf_command.specs.declared.types.Command.TheVariants.{Add, Import}
 use Rattle.uf_command.specs.declared.types.Adding.TheVariants as adding
-use Rattle.uf_command.specs.declared.types.Refusal.{Refusal}
 use Rattle.uf_top.specs.Added.{EachHolds, KeepsHosted, KeepsInput}
 use Rattle.uf_top.specs.Around.{Around, CountsCanRise, HasOutside, StaysQuiet}
 use Rattle.uf_top.specs.Endings.{EndsAs, IsTextOf, PrintsAt}
@@ -29,7 +28,7 @@ use Rattle.uf_top.specs.Running.{Runs}
 use Rattle.uf_top.specs.Shapes.{SyncsAfter}
 use Rattle.uf_top.proofs.Stopped.{add-stops}
 
-module _ (X : List ℕ → List ℕ) (N : List ℕ → ℕ) (Says : List ℕ → Type 0) (before now : Around) (a b : Contents) (was : before.store.told ≡ Some a) (is : now.store.told ≡ Some b) (plain : IsPlain a) where
+module _ (X : List ℕ → List ℕ) (N : List ℕ → ℕ) (before now : Around) (a b : Contents) (was : before.store.told ≡ Some a) (is : now.store.told ≡ Some b) (plain : IsPlain a) where
   -- what was printed, over these contents
   abbrev Printed : Command → Type 0
   Printed command = PrintsAt (IsTextOf X N (Some a) (Some b) before.host.told command before.left) false status.Ok before.held now.held
@@ -42,7 +41,7 @@ module _ (X : List ℕ → List ℕ) (N : List ℕ → ℕ) (Says : List ℕ →
   synced : SyncsAfter X before.store.told now.store.told → SyncsAfter X (Some a) (Some b)
   synced h = subst (λ (told : Told). SyncsAfter X (Some a) told) is (subst (λ (told : Told). SyncsAfter X told now.store.told) was h)
 
-  pub input-stays : Runs Says X N (Ok (Add (adding.Input false))) status.Ok before now → KeepsInput X before now a b
+  pub input-stays : Runs X N (Ok (Add (adding.Input false))) status.Ok before now → KeepsInput X before now a b
   input-stays runs =
       let p = printed (Add (adding.Input false)) runs.printed.text in
       record {
@@ -52,7 +51,7 @@ module _ (X : List ℕ → List ℕ) (N : List ℕ → ℕ) (Says : List ℕ →
         stays = add-stops X a b (file_plan X p.1.profile none p.1.bytes).blocks plain (synced runs.left.writes) p.1.held;
       }
 
-  pub hosted-stays : (recursive : Bool) (path : List ℕ) → Runs Says X N (Ok (Add (adding.Host recursive false path))) status.Ok before now → KeepsHosted X N recursive path before now a b
+  pub hosted-stays : (recursive : Bool) (path : List ℕ) → Runs X N (Ok (Add (adding.Host recursive false path))) status.Ok before now → KeepsHosted X N recursive path before now a b
   hosted-stays recursive path runs =
       let p = printed (Add (adding.Host recursive false path)) runs.printed.text in
       record {
@@ -70,7 +69,7 @@ module _ (X : List ℕ → List ℕ) (N : List ℕ → ℕ) (Says : List ℕ →
       by (inl less) = absurd (never less)
       by (inr few) = omega (arith, few, room)
 
-  pub import-stays : (bytes : List ℕ) → before.left ≡ Some bytes → CountsCanRise before.store → CanRise before.reads → CanRise before.writes → Runs Says X N (Ok Import) status.Ok before now → EachHolds (car_read X most_car bytes).sections b.writes
+  pub import-stays : (bytes : List ℕ) → before.left ≡ Some bytes → CountsCanRise before.store → CanRise before.reads → CanRise before.writes → Runs X N (Ok Import) status.Ok before now → EachHolds (car_read X most_car bytes).sections b.writes
   import-stays bytes left room reads writes runs = add-stops X a b (car_read X most_car bytes).sections plain (synced runs.left.writes) (held (runs.replies world finds outside quiet))
     where
       world : World
@@ -96,6 +95,6 @@ module _ (X : List ℕ → List ℕ) (N : List ℕ → ℕ) (Says : List ℕ →
           clashed (inl e) = cc
           clashed (inr e) = cc
 
-      held : EndsAs Says X N (Ok Import) world status.Ok before.held now.held now.store.told now.host.told → Holds (held_at b) (car_read X most_car bytes).sections
+      held : EndsAs X N (Ok Import) world status.Ok before now → Holds (held_at b) (car_read X most_car bytes).sections
       held (inl wants) = absurd (let e = wants.status_is in cc)
       held (inr replies) = subst (λ (told : Told). TellsHeld told (car_read X most_car bytes).sections) is replies.0.blocks

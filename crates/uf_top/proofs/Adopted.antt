@@ -43,7 +43,7 @@ use Rattle.uf_command.specs.declared.types.Command.TheVariants.{Adopt, At}
 use Rattle.uf_command.specs.declared.types.Refusal.{Refusal}
 use Rattle.uf_command.specs.declared.types.Refusal.TheVariants as refusal
 use Rattle.uf_top.specs.Answering.{Answers, DoesAnswer}
-use Rattle.uf_top.specs.Around.{HostSide, RisesFor, around}
+use Rattle.uf_top.specs.Around.{HostSide, RisesFor, SinkSide, around}
 use Rattle.uf_top.specs.Causes.{IsBadIn, IsReadyBy, RefusesInTree, RefusesOpening, is_read}
 use Rattle.uf_top.specs.Endings.{EndsBy, RuleOf}
 use Rattle.uf_top.specs.Grafts.{GraftsIn, IsLostBy, PutsTree, TouchesUp, graft_kinds}
@@ -291,11 +291,11 @@ module _ (X : List ℕ → List ℕ) (N : List ℕ → ℕ) where
 
   -- ---- how it is done
 
-  module _ (source : DagPath) (dest : Path) (a m : Seen) (told : m.told ≡ a.told) (l : streams.Told) (i : ℕ) (h : streams.Told) (w t0 : ℕ) (side : HostSide) where
+  module _ (source : DagPath) (dest : Path) (a m : Seen) (told : m.told ≡ a.told) (l : streams.Told) (i : ℕ) (h : streams.Told) (w t0 : ℕ) (side : HostSide) (er er2 : SinkSide) where
     -- the tree isn't opened
     pub graft-unopened : (t1 : ℕ) (f : MfsFault) (why : Refusal) → RefusesOpening f why → ((s : Standing) → TellsAs X N a.told s → Stood a.faults m.faults → Opens X N m.told s (Err f))
         → ((p : Profile) (es : Entries) → NamesOver X N a.told p es → Stood a.faults m.faults → OpensOver X N a.told p es (Err f))
-        → ReadsHead a.told (Err f) → ShownOpening X (IsBadInHead X N a.told) {A = Mfs} (Err f) a m → CountsUp (tree_fault {A = Mfs} (Err f)) t0 t1 → Does X N (Adopt source dest) (Err why) (around a l i h w t0 side) (around m l i h w t1 side)
+        → ReadsHead a.told (Err f) → ShownOpening X (IsBadInHead X N a.told) {A = Mfs} (Err f) a m → CountsUp (tree_fault {A = Mfs} (Err f)) t0 t1 → Does X N (Adopt source dest) (Err why) (around a l i h w t0 side er) (around m l i h w t1 side er2)
     graft-unopened t1 f why is opens lost head cause up =
         let plain = grafting-opening source dest a.told l l i f why is in
         let quiet = quiet-of (λ text. ⊤) false why plain.other in
@@ -374,7 +374,7 @@ module _ (X : List ℕ → List ℕ) (N : List ℕ → ℕ) where
             (shown-by X (IsBadInTree X N (Some tree.profile) tree.root.cid) (IsBadIn X N a.told b.told) (refusal_fault done) m b (λ role bytes bad. bad-of-head X N a.told b.told tree head role bytes (inl (inl bad))) grafts.cause)
 
       -- it is refused
-      pub graft-stopped : (why : Refusal) → GraftsIn X N tree source dest (Err why) m b t1 t2 → Does X N (Adopt source dest) (Err why) (around a l i h w t0 side) (around b l i h w t2 side)
+      pub graft-stopped : (why : Refusal) → GraftsIn X N tree source dest (Err why) m b t1 t2 → Does X N (Adopt source dest) (Err why) (around a l i h w t0 side er) (around b l i h w t2 side er2)
       graft-stopped why g =
           let plain = grafting-of source dest a.told l l i why g.kinds in
           let quiet = quiet-of (λ text. ⊤) false why plain.other in
@@ -405,7 +405,7 @@ module _ (X : List ℕ → List ℕ) (N : List ℕ → ℕ) where
           }
 
       -- it is done
-      pub graft-done : GraftsIn X N tree source dest (Ok tt) m b t1 t2 → Does X N (Adopt source dest) (Ok tt) (around a l i h w t0 side) (around b l i h w t2 side)
+      pub graft-done : GraftsIn X N tree source dest (Ok tt) m b t1 t2 → Does X N (Adopt source dest) (Ok tt) (around a l i h w t0 side er) (around b l i h w t2 side er2)
       graft-done g = record {
         answers = λ world finds input quiet2. answers-opened (Ok tt) g world.standing world.held (outside_of world) finds.stands finds.held quiet2.store;
         lost = λ p es rows held bytes named tells heights input quiet2. more-over (Ok tt) g p es held bytes (over-opened (Ok tt) g p es held named tells quiet2.store);
@@ -427,6 +427,6 @@ module _ (X : List ℕ → List ℕ) (N : List ℕ → ℕ) where
         leaves = record { good = all_good (Ok tt) g; head = tt; writes = subst (λ t. WritesAs X MovesHead true t b.told) told g.writes; idle = λ p es bytes names calm same. absurd cc };
       }
 
-      pub graft-ends : (done : Result (Unit {0}) Refusal) → GraftsIn X N tree source dest done m b t1 t2 → Does X N (Adopt source dest) done (around a l i h w t0 side) (around b l i h w t2 side)
+      pub graft-ends : (done : Result (Unit {0}) Refusal) → GraftsIn X N tree source dest done m b t1 t2 → Does X N (Adopt source dest) done (around a l i h w t0 side er) (around b l i h w t2 side er2)
       graft-ends (Ok done) g = graft-done g
       graft-ends (Err why) g = graft-stopped why g

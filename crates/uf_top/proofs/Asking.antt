@@ -1,5 +1,5 @@
 -- How it is done what is asked of an opened tree.
-use Rattle.std.proofs.Common.{◌≡◌, ℕ, ◌+◌, ◌≤◌, List, [], arith, true, false, refl, sym, ap, subst, ◌∙◌, Some, None, Result, Ok, Err}
+use Rattle.std.proofs.Common.{◌≡◌, ℕ, ◌+◌, ◌≤◌, List, [], arith, true, false, refl, sym, ap, subst, ◌∙◌, None, Result, Ok, Err}
 use Rattle.std.specs.Prelude.{IfOk}
 use Rattle.uf_edge.specs.Counts.{Stood}
 use Rattle.uf_mfs.specs.Answers as tree

@@ -1,18 +1,17 @@
 -- A batch passes no failure over: what failed in one of its lines ended it, and is its status.
-use Rattle.std.proofs.Common.{◌≡◌, ◌⊎◌, ◌∙◌, ℕ, ◌<◌, ◌≤◌, List, [], ◌∷◌, arith, true, false, refl, sym, ap, inl, inr, Result, Err}
+use Rattle.std.proofs.Common.{◌≡◌, ◌⊎◌, ◌∙◌, ℕ, ◌<◌, ◌≤◌, List, [], ◌∷◌, arith, true, false, refl, sym, ap, inl, inr}
 use Rattle.std.proofs.lemmas.Bool.{cases_lt}
 use Rattle.uf_command.specs.Statuses.{ends_batch}
 use Rattle.uf_command.specs.Telling.{TellsWhy}
 use Rattle.uf_command.specs.declared.status.Status.{Status}
 use Rattle.uf_command.specs.declared.status.Status.TheVariants as status
-use Rattle.uf_command.specs.declared.types.Command.{Command}
-use Rattle.uf_command.specs.declared.types.Refusal.{Refusal}
 use Rattle.uf_command.specs.declared.types.Refusal.TheVariants as refusal
-use Rattle.uf_top.specs.Around.{Around}
-use Rattle.uf_top.specs.Batch.{AtLine, Batches, ByMemory, ByReading, Ending, EndsSo, LineCut, LineEnds, LineGone, LinePassed, LinesDone, ReadingFails, Said, Scene, Tells, TooLong, WithInput, with_sinks, without_input}
+use Rattle.uf_top.specs.Around.{Around, Said, SameButErrors}
+use Rattle.uf_top.specs.Batch.{AtLine, Batches, ByMemory, ByReading, Ending, EndsSo, LineCut, LineEnds, LineGone, LinePassed, LinesDone, ReadingFails, TooLong, WithInput, without_input}
 use Rattle.uf_top.specs.BatchLines.{EndsAtLine, PassesNoneOver}
 use Rattle.uf_top.specs.Running.{TellsFaults}
 use Rattle.uf_top.proofs.Ran.{line-ran}
+use Rattle.uf_top.proofs.Counted.{but-errors, with_sinks}
 
 -- no count has risen
 pub record Still (a b : Around) : Type 0 where
@@ -22,7 +21,7 @@ pub record Still (a b : Around) : Type 0 where
   pub host_writes : b.host.writes ≤ a.host.writes
   pub writes : b.writes ≤ a.writes
 
-still-same : (a b : Around) → b ≡ a → Still a b
+still-same : (a b : Around) → SameButErrors a b → Still a b
 still-same a b same = record {
   faults = let e = ap (λ (s : Around). s.store.faults) same in omega (arith, e);
   clashes = let e = ap (λ (s : Around). s.store.clashes) same in omega (arith, e);
@@ -74,20 +73,20 @@ module _ (X : List ℕ → List ℕ) (N : List ℕ → ℕ) where
       clashed (inl is) = other given status.Clash on refl is
       clashed (inr is) = other given status.Memory on refl is
 
-  passed-still : (line : List ℕ) (a b : Scene) → LinePassed X N line a b → Still a.around b.around
+  passed-still : (line : List ℕ) (a b : Around) → LinePassed X N line a b → Still a b
   passed-still line a b passed =
-      let s = told-still passed.given a.around (with_sinks passed.printed b.errors b).around (line-ran passed.done).faults passed.goes_on in
-      let e : b.around.writes ≡ passed.printed.faults = passed.marked.counted in
-      let w : passed.printed.faults ≤ a.around.writes = s.writes in
+      let s = told-still passed.given a (with_sinks passed.printed b.errors b) (line-ran passed.done).faults passed.goes_on in
+      let e : b.writes ≡ passed.printed.faults = passed.marked.counted in
+      let w : passed.printed.faults ≤ a.writes = s.writes in
       record { faults = s.faults; clashes = s.clashes; host_reads = s.host_reads; host_writes = s.host_writes; writes = omega (arith, e, w) }
 
-  gone-still : (line : List ℕ) (a b : Scene) → LineGone X N line a b → Still a.around b.around
-  gone-still line a b (inl none) = still-same a.around b.around (ap (λ (s : Scene). s.around) none.1)
+  gone-still : (line : List ℕ) (a b : Around) → LineGone X N line a b → Still a b
+  gone-still line a b (inl none) = still-same a b (but-errors none.1)
   gone-still line a b (inr passed) = passed-still line a b passed
 
-  pub lines-still : (lines : List (List ℕ)) (a b : Scene) → LinesDone X N lines a b → Still a.around b.around
-  lines-still [] a b same = still-same a.around b.around (ap (λ (s : Scene). s.around) same)
-  lines-still (line ∷ lines) a b done = still-then a.around done.0.around b.around (gone-still line a done.0 done.1) (lines-still lines done.0 b done.2)
+  pub lines-still : (lines : List (List ℕ)) (a b : Around) → LinesDone X N lines a b → Still a b
+  lines-still [] a b same = still-same a b (but-errors same)
+  lines-still (line ∷ lines) a b done = still-then a done.0 b (gone-still line a done.0 done.1) (lines-still lines done.0 b done.2)
 
   -- what failed at the end of a batch is its status
   record EndsTold (ending : Ending X N) (given : Status) (m b : Around) : Type 0 where
@@ -106,7 +105,7 @@ module _ (X : List ℕ → List ℕ) (N : List ℕ → ℕ) where
     written = λ less. absurd (let e = s.writes in omega (arith, e, less));
   }
 
-  line-told : (line : List ℕ) (given : Status) (m b : Scene) → LineEnds X N line given m b → EndsTold (AtLine line) given m.around b.around
+  line-told : (line : List ℕ) (given : Status) (m b : Around) → LineEnds X N line given m b → EndsTold (AtLine line) given m b
   line-told line given m b e = record {
     failed = λ less. (line-ran e.done).faults.store less;
     clashed = λ less. (line-ran e.done).faults.clashes less;
@@ -115,34 +114,34 @@ module _ (X : List ℕ → List ℕ) (N : List ℕ → ℕ) where
     written = λ less. inr (line, refl, e.ends);
   }
 
-  cut-told : (line : List ℕ) (given : Status) (m b : Scene) → LineCut X N line given m b → EndsTold (AtLine line) given m.around b.around
+  cut-told : (line : List ℕ) (given : Status) (m b : Around) → LineCut X N line given m b → EndsTold (AtLine line) given m b
   cut-told line given m b e =
-      let s = told-still e.was m.around (with_sinks e.printed e.between b).around (line-ran e.done).faults e.goes_on in
+      let s = told-still e.was m (with_sinks e.printed e.between b) (line-ran e.done).faults e.goes_on in
       record {
-        failed = λ less. absurd (let k : b.around.store.faults ≤ m.around.store.faults = s.faults in omega (arith, k, less));
-        clashed = λ less. absurd (let k : b.around.store.clashes ≤ m.around.store.clashes = s.clashes in omega (arith, k, less));
-        host_read = λ less. absurd (let k : b.around.host.reads ≤ m.around.host.reads = s.host_reads in omega (arith, k, less));
-        host_written = λ less. absurd (let k : b.around.host.writes ≤ m.around.host.writes = s.host_writes in omega (arith, k, less));
+        failed = λ less. absurd (let k : b.store.faults ≤ m.store.faults = s.faults in omega (arith, k, less));
+        clashed = λ less. absurd (let k : b.store.clashes ≤ m.store.clashes = s.clashes in omega (arith, k, less));
+        host_read = λ less. absurd (let k : b.host.reads ≤ m.host.reads = s.host_reads in omega (arith, k, less));
+        host_written = λ less. absurd (let k : b.host.writes ≤ m.host.writes = s.host_writes in omega (arith, k, less));
         written = λ less. inl (write-told (Said e.between b.errors) given e.tells);
       }
 
-  ends-told : (ending : Ending X N) (given : Status) (m b : Scene) → EndsSo X N ending given m b → EndsTold ending given m.around b.around
-  ends-told WithInput given m b e = still-told WithInput given m.around b.around (still-same m.around b.around (ap (λ (s : Scene). s.around) e.1))
-  ends-told TooLong given m b e = still-told TooLong given m.around b.around (still-same m.around b.around e.same)
-  ends-told ByReading given m b e = still-told ByReading given m.around b.around (still-same m.around b.around e.same)
-  ends-told ByMemory given m b e = still-told ByMemory given m.around b.around (still-same m.around b.around e.same)
+  ends-told : (ending : Ending X N) (given : Status) (m b : Around) → EndsSo X N ending given m b → EndsTold ending given m b
+  ends-told WithInput given m b e = still-told WithInput given m b (still-same m b (but-errors e.1))
+  ends-told TooLong given m b e = still-told TooLong given m b (still-same m b e.same)
+  ends-told ByReading given m b e = still-told ByReading given m b (still-same m b e.same)
+  ends-told ByMemory given m b e = still-told ByMemory given m b (still-same m b e.same)
   ends-told (AtLine line) given m b (inl e) = line-told line given m b e
   ends-told (AtLine line) given m b (inr e) = cut-told line given m b e
 
   -- the input of a batch fails only where it ends by that
-  input-told : (ending : Ending X N) (given : Status) (m b : Scene) (reads reads_now : ℕ) → EndsSo X N ending given m b → ReadingFails X N ending reads reads_now → reads < reads_now → given ≡ status.ReadFault
+  input-told : (ending : Ending X N) (given : Status) (m b : Around) (reads reads_now : ℕ) → EndsSo X N ending given m b → ReadingFails X N ending reads reads_now → reads < reads_now → given ≡ status.ReadFault
   input-told WithInput given m b reads reads_now e f less = absurd (omega (arith, f, less))
   input-told TooLong given m b reads reads_now e f less = absurd (omega (arith, f, less))
   input-told ByReading given m b reads reads_now e f less = read-told (Said m.errors b.errors) given e.told
   input-told ByMemory given m b reads reads_now e f less = absurd (omega (arith, f, less))
   input-told (AtLine line) given m b reads reads_now e f less = absurd (omega (arith, f, less))
 
-  pub batch-told : (most limit : ℕ) (given : Status) (a b : Scene) (did : Batches X N most limit given a b) → PassesNoneOver X N did.ending given a.around b.around
+  pub batch-told : (most limit : ℕ) (given : Status) (a b : Around) (did : Batches X N most limit given a b) → PassesNoneOver X N did.ending given a b
   batch-told most limit given a b did =
       let s = lines-still did.lines (without_input a) did.between did.done in
       let t = ends-told did.ending given did.between (without_input b) did.ends in
@@ -154,7 +153,7 @@ module _ (X : List ℕ → List ℕ) (N : List ℕ → ℕ) where
         written = λ less. t.written (let k = s.writes in omega (arith, k, less));
       }
     where
-      by : did.between.around.host.reads ≤ a.around.host.reads → (did.between.around.host.reads < b.around.host.reads → given ≡ status.ReadFault)
-          → (a.around.reads < b.around.reads) ⊎ (a.around.host.reads < b.around.host.reads) → given ≡ status.ReadFault
-      by still told (inl less) = input-told did.ending given did.between (without_input b) a.around.reads b.around.reads did.ends did.fails less
+      by : did.between.host.reads ≤ a.host.reads → (did.between.host.reads < b.host.reads → given ≡ status.ReadFault)
+          → (a.reads < b.reads) ⊎ (a.host.reads < b.host.reads) → given ≡ status.ReadFault
+      by still told (inl less) = input-told did.ending given did.between (without_input b) a.reads b.reads did.ends did.fails less
       by still told (inr less) = told (omega (arith, still, less))

@@ -41,8 +41,8 @@ use Rattle.uf_command.specs.declared.types.Adding.TheVariants as adding
 use Rattle.uf_command.specs.declared.types.Refusal.{Refusal}
 use Rattle.uf_store.specs.Seen.{Seen}
 use Rattle.uf_top.specs.Answering.{LeavesNext}
-use Rattle.uf_top.specs.Around.{Around, StandsOrRose}
-use Rattle.uf_top.specs.Batch.{AtLine, Batches, ByMemory, ByReading, EndsSo, Ending, LineDone, LineGone, LinePassed, LinesDone, Said, Scene, SinkSide, TooLong, WithInput, with_sinks, without_input}
+use Rattle.uf_top.specs.Around.{Around, SameButErrors, SinkSide, StandsOrRose}
+use Rattle.uf_top.specs.Batch.{AtLine, Batches, ByMemory, ByReading, Ending, EndsSo, LineDone, LineGone, LinePassed, LinesDone, TooLong, WithInput, without_input}
 use Rattle.uf_top.specs.BatchLines.{AllCanRise, BeginsSafe, EndsDuring, LineOf, StopsAtFirst, StopsInLine}
 use Rattle.uf_top.specs.BatchReplies.{NothingFails, line_world}
 use Rattle.uf_top.specs.Endings.{EndsAs, may_move}
@@ -60,6 +60,7 @@ use Rattle.uf_top.proofs.Pins.{noted-pins, notes-wrote, syncs-wrote}
 use Rattle.uf_top.proofs.Ran.{line-ran}
 use Rattle.uf_top.proofs.Standings.{stands-kept}
 use Rattle.uf_top.proofs.Stopped.{words-end}
+use Rattle.uf_top.proofs.Counted.{but-errors, with_sinks}
 
 -- ---- counts that didn't rise
 
@@ -200,8 +201,8 @@ module _ (X : List ℕ → List ℕ) (N : List ℕ → ℕ) (host : HostTree) wh
   told-some None s stands = absurd stands
   told-some (Some d) s stands = (d, refl)
 
-  module _ (line : List ℕ) (given : Status) (a b : Scene) (done : LineDone X N line given a b) (c : Contents) (p : Profile) (es : Entries) (begin : BeginsSafe X N host a c p es) where
-    stands : TellsAs X N a.around.store.told (Stands p es)
+  module _ (line : List ℕ) (given : Status) (a b : Around) (done : LineDone X N line given a b) (c : Contents) (p : Profile) (es : Entries) (begin : BeginsSafe X N host a c p es) where
+    stands : TellsAs X N a.store.told (Stands p es)
     stands = subst (λ t. TellsAs X N t (Stands p es)) (sym begin.told) begin.safe.stands
 
     -- ---- no count rose
@@ -210,74 +211,74 @@ module _ (X : List ℕ → List ℕ) (N : List ℕ → ℕ) (host : HostTree) wh
     never want other memory (inl is) = other is
     never want other memory (inr is) = memory is
 
-    calm : Quiet given → Calm a.around.store b.around.store
+    calm : Quiet given → Calm a.store b.store
     calm quiet = record {
-      faults = still-stood a.around.store.faults b.around.store.faults (line-ran done).faults.counted.store.faults (λ more. quiet.0 ((line-ran done).faults.store more)) begin.room.store.faults;
-      clashes = still-stood a.around.store.clashes b.around.store.clashes (line-ran done).faults.counted.store.clashes (λ more. never status.Clash quiet.2 quiet.1 ((line-ran done).faults.clashes more)) begin.room.store.clashes;
+      faults = still-stood a.store.faults b.store.faults (line-ran done).faults.counted.store.faults (λ more. quiet.0 ((line-ran done).faults.store more)) begin.room.store.faults;
+      clashes = still-stood a.store.clashes b.store.clashes (line-ran done).faults.counted.store.clashes (λ more. never status.Clash quiet.2 quiet.1 ((line-ran done).faults.clashes more)) begin.room.store.clashes;
     }
 
-    host-read : Quiet given → Stood a.around.host.reads b.around.host.reads
-    host-read quiet = still-stood a.around.host.reads b.around.host.reads (line-ran done).faults.counted.host_reads (λ more. quiet.3 ((line-ran done).faults.reads (inr more))) begin.room.host
+    host-read : Quiet given → Stood a.host.reads b.host.reads
+    host-read quiet = still-stood a.host.reads b.host.reads (line-ran done).faults.counted.host_reads (λ more. quiet.3 ((line-ran done).faults.reads (inr more))) begin.room.host
 
-    wrote-all : (given ≡ status.WriteFault → ⊥) → Stood a.around.writes b.around.writes
-    wrote-all other = still-wrote a.around.writes b.around.writes (line-ran done).faults.counted.writes (λ more. other ((line-ran done).faults.writes (inl more))) begin.room.output
+    wrote-all : (given ≡ status.WriteFault → ⊥) → Stood a.writes b.writes
+    wrote-all other = still-wrote a.writes b.writes (line-ran done).faults.counted.writes (λ more. other ((line-ran done).faults.writes (inl more))) begin.room.output
 
-    nothing-fails : Quiet given → (given ≡ status.WriteFault → ⊥) → NothingFails a.around b.around
+    nothing-fails : Quiet given → (given ≡ status.WriteFault → ⊥) → NothingFails a b
     nothing-fails quiet other = record { store = calm quiet; output = wrote-all other; host = host-read quiet }
 
-    room-later : Quiet given → (given ≡ status.WriteFault → ⊥) → AllCanRise b.around
+    room-later : Quiet given → (given ≡ status.WriteFault → ⊥) → AllCanRise b
     room-later quiet other = (let h = nothing-fails quiet other in record {
       store = record {
-        faults = rise-later a.around.store.faults b.around.store.faults (line-ran done).faults.counted.store.faults h.store.faults;
-        clashes = rise-later a.around.store.clashes b.around.store.clashes (line-ran done).faults.counted.store.clashes h.store.clashes;
+        faults = rise-later a.store.faults b.store.faults (line-ran done).faults.counted.store.faults h.store.faults;
+        clashes = rise-later a.store.clashes b.store.clashes (line-ran done).faults.counted.store.clashes h.store.clashes;
       };
-      output = rise-wrote a.around.writes b.around.writes (line-ran done).faults.counted.writes h.output;
-      host = rise-later a.around.host.reads b.around.host.reads (line-ran done).faults.counted.host_reads h.host;
+      output = rise-wrote a.writes b.writes (line-ran done).faults.counted.writes h.output;
+      host = rise-later a.host.reads b.host.reads (line-ran done).faults.counted.host_reads h.host;
     })
 
     -- ---- the tree after it
 
     abbrev NextTree : Type 0
-    NextTree = (q : Profile) × (fs : Entries) × TellsAs X N b.around.store.told (Stands q fs)
+    NextTree = (q : Profile) × (fs : Entries) × TellsAs X N b.store.told (Stands q fs)
 
-    by-reply : (held : Lookup) → TellsAs X N b.around.store.told (reply_to X N done.asked (line_world host (Stands p es) held (noted-pins a.around.store.told).0)).next → NextTree
-    by-reply held now = (let r = reply-tree X N p es host held (noted-pins a.around.store.told).0 done.asked (asks-suits line done.asked done.asks) in (r.0, r.1, subst (TellsAs X N b.around.store.told) r.2 now))
+    by-reply : (held : Lookup) → TellsAs X N b.store.told (reply_to X N done.asked (line_world host (Stands p es) held (noted-pins a.store.told).0)).next → NextTree
+    by-reply held now = (let r = reply-tree X N p es host held (noted-pins a.store.told).0 done.asked (asks-suits line done.asked done.asks) in (r.0, r.1, subst (TellsAs X N b.store.told) r.2 now))
 
-    after-ok : given ≡ status.Ok → ((held : Lookup) × TellsBlocks a.around.store.told held) → NextTree
-    after-ok is h0 = by ((line-ran done).replies (line_world host (Stands p es) h0.0 (noted-pins a.around.store.told).0) (finds-of X N host line given a b done (Stands p es) h0.0 stands h0.1) (outside-of X N host line given a b done (Stands p es) h0.0 begin.host_told fails.host) (quiet-of X N host line given a b done fails))
+    after-ok : given ≡ status.Ok → ((held : Lookup) × TellsBlocks a.store.told held) → NextTree
+    after-ok is h0 = by ((line-ran done).replies (line_world host (Stands p es) h0.0 (noted-pins a.store.told).0) (finds-of X N host line given a b done (Stands p es) h0.0 stands h0.1) (outside-of X N host line given a b done (Stands p es) h0.0 begin.host_told fails.host) (quiet-of X N host line given a b done fails))
       where
-        fails : NothingFails a.around b.around
+        fails : NothingFails a b
         fails = nothing-fails (quiet-status given status.Ok is (λ e. cc, λ e. cc, λ e. cc, λ e. cc)) (λ e. (let k : status.Ok ≡ status.WriteFault = sym is ∙ e in cc))
 
-        by : EndsAs (Said a.errors b.errors) X N done.asked (line_world host (Stands p es) h0.0 (noted-pins a.around.store.told).0) given a.around.held b.around.held b.around.store.told b.around.host.told → NextTree
+        by : EndsAs X N done.asked (line_world host (Stands p es) h0.0 (noted-pins a.store.told).0) given a b → NextTree
         by (inl wants) = absurd (let k : status.Ok ≡ status.Memory = sym is ∙ wants.status_is in cc)
-        by (inr replies) = by-reply h0.0 (stands-next X N host line given a b done (Stands p es) (reply_to X N done.asked (line_world host (Stands p es) h0.0 (noted-pins a.around.store.told).0)).next (λ none. next-same X N done.asked (line_world host (Stands p es) h0.0 (noted-pins a.around.store.told).0) none) stands replies.0.stands)
+        by (inr replies) = by-reply h0.0 (stands-next X N host line given a b done (Stands p es) (reply_to X N done.asked (line_world host (Stands p es) h0.0 (noted-pins a.store.told).0)).next (λ none. next-same X N done.asked (line_world host (Stands p es) h0.0 (noted-pins a.store.told).0) none) stands replies.0.stands)
 
-    after-unprinted : given ≡ status.WriteFault → of_command prints_after false done.asked ≡ true → ((held : Lookup) × TellsBlocks a.around.store.told held) → NextTree
+    after-unprinted : given ≡ status.WriteFault → of_command prints_after false done.asked ≡ true → ((held : Lookup) × TellsBlocks a.store.told held) → NextTree
     after-unprinted is after h0 = by-reply h0.0 left.stands
       where
         quiet : Quiet given
         quiet = quiet-status given status.WriteFault is (λ e. cc, λ e. cc, λ e. cc, λ e. cc)
 
-        left : LeavesNext X N (reply_to X N done.asked (line_world host (Stands p es) h0.0 (noted-pins a.around.store.told).0)) b.around.store.told
-        left = (line-ran done).unprinted (line_world host (Stands p es) h0.0 (noted-pins a.around.store.told).0) after is (finds-of X N host line given a b done (Stands p es) h0.0 stands h0.1) (outside-of X N host line given a b done (Stands p es) h0.0 begin.host_told (host-read quiet)) (calm quiet)
+        left : LeavesNext X N (reply_to X N done.asked (line_world host (Stands p es) h0.0 (noted-pins a.store.told).0)) b.store.told
+        left = (line-ran done).unprinted (line_world host (Stands p es) h0.0 (noted-pins a.store.told).0) after is (finds-of X N host line given a b done (Stands p es) h0.0 stands h0.1) (outside-of X N host line given a b done (Stands p es) h0.0 begin.host_told (host-read quiet)) (calm quiet)
 
     -- a status by which the line may move the Head
     after-moved : (is : Status) → given ≡ is → may_move done.asked is ≡ true → NextTree
-    after-moved status.Ok is may = after-ok is (held-of X N a.around.store.told (Stands p es) stands)
+    after-moved status.Ok is may = after-ok is (held-of X N a.store.told (Stands p es) stands)
     after-moved status.Rule is may = absurd cc
     after-moved status.Usage is may = absurd cc
     after-moved status.StoreFault is may = absurd cc
     after-moved status.Missing is may = absurd cc
     after-moved status.BadBlock is may = absurd cc
     after-moved status.ReadFault is may = absurd cc
-    after-moved status.WriteFault is may = after-unprinted is may (held-of X N a.around.store.told (Stands p es) stands)
+    after-moved status.WriteFault is may = after-unprinted is may (held-of X N a.store.told (Stands p es) stands)
     after-moved status.Clash is may = absurd cc
     after-moved status.Memory is may = absurd cc
     after-moved status.NotReady is may = absurd cc
 
-    next-tree : (head_in b.around.store.told ≡ head_in a.around.store.told) ⊎ (may_move done.asked given ≡ true) → NextTree
-    next-tree (inl same) = (p, es, stands-kept X N a.around.store.told b.around.store.told (Stands p es) (line-ran done).good same stands)
+    next-tree : (head_in b.store.told ≡ head_in a.store.told) ⊎ (may_move done.asked given ≡ true) → NextTree
+    next-tree (inl same) = (p, es, stands-kept X N a.store.told b.store.told (Stands p es) (line-ran done).good same stands)
     next-tree (inr may) = after-moved given refl may
 
     -- ---- each stop in it
@@ -287,7 +288,7 @@ module _ (X : List ℕ → List ℕ) (N : List ℕ → ℕ) (host : HostTree) wh
       q : Profile
       fs : Entries
       d : Contents
-      told_now : b.around.store.told ≡ Some d
+      told_now : b.store.told ≡ Some d
       safe_now : IsSafeFor X N d q fs
       stops : EachStop (LeavesEither X N p es q fs) c d
       added : List Write
@@ -297,10 +298,10 @@ module _ (X : List ℕ → List ℕ) (N : List ℕ → ℕ) (host : HostTree) wh
       line-safe : LineSafe
       line-safe = by (next-tree (head-or X N line given a b done))
         where
-          writes : (d : Contents) → b.around.store.told ≡ Some d → WritesFor X done.asked (is_done given) (Some c) (Some d)
-          writes d told = subst (λ t. WritesFor X done.asked (is_done given) t (Some d)) begin.told (subst (λ t. WritesFor X done.asked (is_done given) a.around.store.told t) told (line-ran done).writes)
+          writes : (d : Contents) → b.store.told ≡ Some d → WritesFor X done.asked (is_done given) (Some c) (Some d)
+          writes d told = subst (λ t. WritesFor X done.asked (is_done given) t (Some d)) begin.told (subst (λ t. WritesFor X done.asked (is_done given) a.store.told t) told (line-ran done).writes)
 
-          with-it : (q : Profile) (fs : Entries) → TellsAs X N b.around.store.told (Stands q fs) → ((d : Contents) × (b.around.store.told ≡ Some d)) → LineSafe
+          with-it : (q : Profile) (fs : Entries) → TellsAs X N b.store.told (Stands q fs) → ((d : Contents) × (b.store.told ≡ Some d)) → LineSafe
           with-it q fs now d0 =
               let wrote = writes d0.0 d0.1 in
               let well = words-end X N hash small c p q es fs begin.safe done.asked (is_done given) d0.0 wrote (subst (λ t. TellsAs X N t (Stands q fs)) d0.1 now) in
@@ -308,27 +309,27 @@ module _ (X : List ℕ → List ℕ) (N : List ℕ → ℕ) (host : HostTree) wh
               record { q = q; fs = fs; d = d0.0; told_now = d0.1; safe_now = well.0; stops = well.1; added = more.added; grown = more.writes }
 
           by : NextTree → LineSafe
-          by next = with-it next.0 next.1 next.2 (told-some b.around.store.told (Stands next.0 next.1) next.2)
+          by next = with-it next.0 next.1 next.2 (told-some b.store.told (Stands next.0 next.1) next.2)
 
   -- ---- lines
 
   module _ (hash : IsHash X) (small : (name : List ℕ) → N name < 2 ^ 64) where
-    abbrev Stops : List (List ℕ) → Ending X N → Scene → Contents → Profile → Entries → List Write → Type 0
+    abbrev Stops : List (List ℕ) → Ending X N → Around → Contents → Profile → Entries → List Write → Type 0
     Stops lines ending a c p es ws = StopsAtFirst X N c p es ws ⊎ StopsInLine X N lines ending a ws
 
     -- the contents at the end are safe for a tree, and each stop before is one in a line
-    record BatchSafe (lines : List (List ℕ)) (ending : Ending X N) (a z : Scene) (c : Contents) (p : Profile) (es : Entries) : Type 0 where
+    record BatchSafe (lines : List (List ℕ)) (ending : Ending X N) (a z : Around) (c : Contents) (p : Profile) (es : Entries) : Type 0 where
       q : Profile
       fs : Entries
       d : Contents
-      told_now : z.around.store.told ≡ Some d
+      told_now : z.store.told ≡ Some d
       safe_now : IsSafeFor X N d q fs
       added : List Write
       grown : d.writes ≡ c.writes ++ added
       stops : (done rest : List Write) → d.writes ≡ c.writes ++ done ++ rest → Stops lines ending a c p es (c.writes ++ done)
 
     -- nothing was done
-    nothing-safe : (lines : List (List ℕ)) (ending : Ending X N) (a z : Scene) (c : Contents) (p : Profile) (es : Entries) → z.around ≡ a.around → BeginsSafe X N host a c p es → BatchSafe lines ending a z c p es
+    nothing-safe : (lines : List (List ℕ)) (ending : Ending X N) (a z : Around) (c : Contents) (p : Profile) (es : Entries) → SameButErrors a z → BeginsSafe X N host a c p es → BatchSafe lines ending a z c p es
     nothing-safe lines ending a z c p es same begin = record {
       q = p;
       fs = es;
@@ -347,7 +348,7 @@ module _ (X : List ℕ → List ℕ) (N : List ℕ → ℕ) (host : HostTree) wh
         })
         at-first (w ∷ done) rest e = absurd cc
 
-    module _ (line : List ℕ) (given : Status) (a b : Scene) (done : LineDone X N line given a b) (c : Contents) (p : Profile) (es : Entries) (begin : BeginsSafe X N host a c p es) (l : LineSafe line given a b done c p es begin) where
+    module _ (line : List ℕ) (given : Status) (a b : Around) (done : LineDone X N line given a b) (c : Contents) (p : Profile) (es : Entries) (begin : BeginsSafe X N host a c p es) (l : LineSafe line given a b done c p es begin) where
       -- a stop in this line
       in-line : (lines : List (List ℕ)) (ending : Ending X N) (one : LineOf X N lines ending a) → one.found ≡ a → one.left ≡ b → (ws us vs : List Write) → ws ≡ c.writes ++ us → l.d.writes ≡ c.writes ++ us ++ vs → StopsInLine X N lines ending a ws
       in-line lines ending one found left ws us vs is cut_at = record {
@@ -356,18 +357,18 @@ module _ (X : List ℕ → List ℕ) (N : List ℕ → ℕ) (host : HostTree) wh
         es = es;
         q = l.q;
         fs = l.fs;
-        stood = subst (λ (s : Scene). TellsAs X N s.around.store.told (Stands p es)) (sym found) (subst (λ t. TellsAs X N t (Stands p es)) (sym begin.told) begin.safe.stands);
-        stands = subst (λ (s : Scene). TellsAs X N s.around.store.told (Stands l.q l.fs)) (sym left) (subst (λ t. TellsAs X N t (Stands l.q l.fs)) (sym l.told_now) l.safe_now.stands);
-        during = subst (λ (s : Scene). EndsDuring s.around.store.told one.left.around.store.told ws) (sym found) (subst (λ (s : Scene). EndsDuring a.around.store.told s.around.store.told ws) (sym left) between);
+        stood = subst (λ (s : Around). TellsAs X N s.store.told (Stands p es)) (sym found) (subst (λ t. TellsAs X N t (Stands p es)) (sym begin.told) begin.safe.stands);
+        stands = subst (λ (s : Around). TellsAs X N s.store.told (Stands l.q l.fs)) (sym left) (subst (λ t. TellsAs X N t (Stands l.q l.fs)) (sym l.told_now) l.safe_now.stands);
+        during = subst (λ (s : Around). EndsDuring s.store.told one.left.store.told ws) (sym found) (subst (λ (s : Around). EndsDuring a.store.told s.store.told ws) (sym left) between);
         leaves = subst (EachOutcome (LeavesEither X N p es l.q l.fs)) (sym is) (l.stops us vs cut_at);
       }
         where
-          between : EndsDuring a.around.store.told b.around.store.told ws
-          between = subst (λ t. EndsDuring t b.around.store.told ws) (sym begin.told) (subst (λ t. EndsDuring (Some c) t ws) (sym l.told_now)
+          between : EndsDuring a.store.told b.store.told ws
+          between = subst (λ t. EndsDuring t b.store.told ws) (sym begin.told) (subst (λ t. EndsDuring (Some c) t ws) (sym l.told_now)
               (us, vs, is, cut_at ∙ ap (λ (x : List Write). x ++ vs) (sym is)))
 
     -- the last line of a batch
-    last-safe : (line : List ℕ) (given : Status) (a m z : Scene) (done : LineDone X N line given a m) → z.around.store ≡ m.around.store → (c : Contents) (p : Profile) (es : Entries) → BeginsSafe X N host a c p es → BatchSafe [] (AtLine line) a z c p es
+    last-safe : (line : List ℕ) (given : Status) (a m z : Around) (done : LineDone X N line given a m) → z.store ≡ m.store → (c : Contents) (p : Profile) (es : Entries) → BeginsSafe X N host a c p es → BatchSafe [] (AtLine line) a z c p es
     last-safe line given a m z done same c p es begin = by (line-safe line given a m done c p es begin hash small)
       where
         by : LineSafe line given a m done c p es begin → BatchSafe [] (AtLine line) a z c p es
@@ -382,8 +383,8 @@ module _ (X : List ℕ → List ℕ) (N : List ℕ → ℕ) (host : HostTree) wh
           stops = λ us vs e. inr (in-line line given a m done c p es begin l [] (AtLine line) (last-of X N line given a m done) refl refl (c.writes ++ us) us vs refl e);
         }
 
-    ends-safe : (ending : Ending X N) (given : Status) (a z : Scene) → EndsSo X N ending given a z → (c : Contents) (p : Profile) (es : Entries) → BeginsSafe X N host a c p es → BatchSafe [] ending a z c p es
-    ends-safe WithInput given a z e c p es begin = nothing-safe [] WithInput a z c p es (ap (λ (s : Scene). s.around) e.1) begin
+    ends-safe : (ending : Ending X N) (given : Status) (a z : Around) → EndsSo X N ending given a z → (c : Contents) (p : Profile) (es : Entries) → BeginsSafe X N host a c p es → BatchSafe [] ending a z c p es
+    ends-safe WithInput given a z e c p es begin = nothing-safe [] WithInput a z c p es (but-errors e.1) begin
     ends-safe TooLong given a z e c p es begin = nothing-safe [] TooLong a z c p es e.same begin
     ends-safe ByReading given a z e c p es begin = nothing-safe [] ByReading a z c p es e.same begin
     ends-safe ByMemory given a z e c p es begin = nothing-safe [] ByMemory a z c p es e.same begin
@@ -392,7 +393,7 @@ module _ (X : List ℕ → List ℕ) (N : List ℕ → ℕ) (host : HostTree) wh
 
     -- ---- a line in front of others
 
-    more-stop : (line : List ℕ) (lines : List (List ℕ)) (ending : Ending X N) (a m : Scene) (ws : List Write) → LineGone X N line a m → StopsInLine X N lines ending m ws → StopsInLine X N (line ∷ lines) ending a ws
+    more-stop : (line : List ℕ) (lines : List (List ℕ)) (ending : Ending X N) (a m : Around) (ws : List Write) → LineGone X N line a m → StopsInLine X N lines ending m ws → StopsInLine X N (line ∷ lines) ending a ws
     more-stop line lines ending a m ws gone s = record {
       one = more-of X N line lines ending a m gone s.one;
       p = s.p;
@@ -406,14 +407,14 @@ module _ (X : List ℕ → List ℕ) (N : List ℕ → ℕ) (host : HostTree) wh
     }
 
     -- one without a word
-    idle-front : (line : List ℕ) (lines : List (List ℕ)) (ending : Ending X N) (a m z : Scene) (c : Contents) (p : Profile) (es : Entries) → LineGone X N line a m → BatchSafe lines ending m z c p es → BatchSafe (line ∷ lines) ending a z c p es
+    idle-front : (line : List ℕ) (lines : List (List ℕ)) (ending : Ending X N) (a m z : Around) (c : Contents) (p : Profile) (es : Entries) → LineGone X N line a m → BatchSafe lines ending m z c p es → BatchSafe (line ∷ lines) ending a z c p es
     idle-front line lines ending a m z c p es gone r = record { q = r.q; fs = r.fs; d = r.d; told_now = r.told_now; safe_now = r.safe_now; added = r.added; grown = r.grown; stops = λ us vs e. by (c.writes ++ us) (r.stops us vs e) }
       where
         by : (ws : List Write) → Stops lines ending m c p es ws → Stops (line ∷ lines) ending a c p es ws
         by ws (inl first) = inl first
         by ws (inr later) = inr (more-stop line lines ending a m ws gone later)
 
-    module _ (line : List ℕ) (lines : List (List ℕ)) (ending : Ending X N) (a m z : Scene) (passed : LinePassed X N line a m) (c : Contents) (p : Profile) (es : Entries) (begin : BeginsSafe X N host a c p es)
+    module _ (line : List ℕ) (lines : List (List ℕ)) (ending : Ending X N) (a m z : Around) (passed : LinePassed X N line a m) (c : Contents) (p : Profile) (es : Entries) (begin : BeginsSafe X N host a c p es)
         (l : LineSafe line passed.given a (with_sinks passed.printed m.errors m) passed.done c p es begin) (r : BatchSafe lines ending m z l.d l.q l.fs) where
       here : (ws us vs : List Write) → ws ≡ c.writes ++ us → l.d.writes ≡ c.writes ++ us ++ vs → Stops (line ∷ lines) ending a c p es ws
       here ws us vs is e =
@@ -446,10 +447,10 @@ module _ (X : List ℕ → List ℕ) (N : List ℕ → ℕ) (host : HostTree) wh
 
     -- ---- all lines
 
-    mark-room : (printed errors : SinkSide) (b : Scene) → b.around.writes ≡ printed.faults → AllCanRise (with_sinks printed errors b).around → AllCanRise b.around
+    mark-room : (printed errors : SinkSide) (b : Around) → b.writes ≡ printed.faults → AllCanRise (with_sinks printed errors b) → AllCanRise b
     mark-room printed errors b same room = record { store = room.store; output = subst CanRise (sym same) room.output; host = room.host }
 
-    later-safe : (line : List ℕ) (a m : Scene) (passed : LinePassed X N line a m) (c : Contents) (p : Profile) (es : Entries) (begin : BeginsSafe X N host a c p es) (l : LineSafe line passed.given a (with_sinks passed.printed m.errors m) passed.done c p es begin)
+    later-safe : (line : List ℕ) (a m : Around) (passed : LinePassed X N line a m) (c : Contents) (p : Profile) (es : Entries) (begin : BeginsSafe X N host a c p es) (l : LineSafe line passed.given a (with_sinks passed.printed m.errors m) passed.done c p es begin)
         → BeginsSafe X N host m l.d l.q l.fs
     later-safe line a m passed c p es begin l =
         let free = quiet-on passed.given passed.goes_on in
@@ -460,25 +461,25 @@ module _ (X : List ℕ → List ℕ) (N : List ℕ → ℕ) (host : HostTree) wh
           room = mark-room passed.printed m.errors m passed.marked.counted (room-later line passed.given a (with_sinks passed.printed m.errors m) passed.done c p es begin free.0 free.1);
         }
 
-    gone-safe : (line : List ℕ) (lines : List (List ℕ)) (ending : Ending X N) (a m z : Scene) → LineGone X N line a m → ((c : Contents) (p : Profile) (es : Entries) → BeginsSafe X N host m c p es → BatchSafe lines ending m z c p es)
+    gone-safe : (line : List ℕ) (lines : List (List ℕ)) (ending : Ending X N) (a m z : Around) → LineGone X N line a m → ((c : Contents) (p : Profile) (es : Entries) → BeginsSafe X N host m c p es → BatchSafe lines ending m z c p es)
         → (c : Contents) (p : Profile) (es : Entries) → BeginsSafe X N host a c p es → BatchSafe (line ∷ lines) ending a z c p es
     gone-safe line lines ending a m z (inl none) rest c p es begin = idle-front line lines ending a m z c p es (inl none) (rest c p es (subst (λ s. BeginsSafe X N host s c p es) (sym none.1) begin))
     gone-safe line lines ending a m z (inr passed) rest c p es begin =
         let l = line-safe line passed.given a (with_sinks passed.printed m.errors m) passed.done c p es begin hash small in
         passed-front line lines ending a m z passed c p es begin l (rest l.d l.q l.fs (later-safe line a m passed c p es begin l))
 
-    all-safe : (lines : List (List ℕ)) (ending : Ending X N) (given : Status) (a m z : Scene) → LinesDone X N lines a m → EndsSo X N ending given m z → (c : Contents) (p : Profile) (es : Entries) → BeginsSafe X N host a c p es → BatchSafe lines ending a z c p es
+    all-safe : (lines : List (List ℕ)) (ending : Ending X N) (given : Status) (a m z : Around) → LinesDone X N lines a m → EndsSo X N ending given m z → (c : Contents) (p : Profile) (es : Entries) → BeginsSafe X N host a c p es → BatchSafe lines ending a z c p es
     all-safe [] ending given a m z same ends c p es begin = ends-safe ending given a z (subst (λ s. EndsSo X N ending given s z) same ends) c p es begin
     all-safe (line ∷ lines) ending given a m z done ends c p es begin =
         gone-safe line lines ending a done.0 z done.1 (λ c p es begin. all-safe lines ending given done.0 m z done.2 ends c p es begin) c p es begin
 
     -- ---- the whole batch
 
-    module _ (most limit : ℕ) (given : Status) (before now : Scene) (did : Batches X N most limit given before now) (c d : Contents) (p : Profile) (es : Entries) where
-      abbrev a : Scene
+    module _ (most limit : ℕ) (given : Status) (before now : Around) (did : Batches X N most limit given before now) (c d : Contents) (p : Profile) (es : Entries) where
+      abbrev a : Around
       a = without_input before
 
-      abbrev z : Scene
+      abbrev z : Around
       z = without_input now
 
       begins : BeginsSafe X N host before c p es → BeginsSafe X N host a c p es
@@ -490,8 +491,8 @@ module _ (X : List ℕ → List ℕ) (N : List ℕ → ℕ) (host : HostTree) wh
       same-contents : (x y : Contents) → ◌≡◌ {A = Told} (Some x) (Some y) → x ≡ y
       same-contents x y e = cc
 
-      pub batch-stops : BeginsSafe X N host before c p es → z.around.store.told ≡ Some d → (us vs : List Write) → d.writes ≡ c.writes ++ us ++ vs → Stops did.lines did.ending a c p es (c.writes ++ us)
+      pub batch-stops : BeginsSafe X N host before c p es → z.store.told ≡ Some d → (us vs : List Write) → d.writes ≡ c.writes ++ us ++ vs → Stops did.lines did.ending a c p es (c.writes ++ us)
       batch-stops begin told us vs e = (let r = whole begin in r.stops us vs (ap (λ (t : Contents). t.writes) (same-contents r.d d (sym r.told_now ∙ told)) ∙ e))
 
-      pub batch-safe : BeginsSafe X N host before c p es → z.around.store.told ≡ Some d → (q : Profile) × (fs : Entries) × IsSafeFor X N d q fs
+      pub batch-safe : BeginsSafe X N host before c p es → z.store.told ≡ Some d → (q : Profile) × (fs : Entries) × IsSafeFor X N d q fs
       batch-safe begin told = (let r = whole begin in (r.q, r.fs, subst (λ (t : Contents). IsSafeFor X N t r.q r.fs) (same-contents r.d d (sym r.told_now ∙ told)) r.safe_now))

@@ -45,7 +45,7 @@ use Rattle.uf_command.specs.declared.types.DagRule.TheVariants as rule
 use Rattle.uf_command.specs.declared.types.Refusal.{Refusal}
 use Rattle.uf_command.specs.declared.types.Refusal.TheVariants as refusal
 use Rattle.uf_top.specs.Answering.{DoesAnswer}
-use Rattle.uf_top.specs.Around.{HostSide, RisesFor, around}
+use Rattle.uf_top.specs.Around.{HostSide, RisesFor, SinkSide, around}
 use Rattle.uf_top.specs.Causes.{IsBadIn, IsReadyBy, is_read}
 use Rattle.uf_top.specs.Endings.{EndsBy, PrintsPart}
 use Rattle.uf_top.specs.Foreign.{FindsFile, FindsShape, IsFileIn, IsOfReading, IsOwnRefusal, IsShapeIn}
@@ -278,7 +278,7 @@ pub tells-some : (told : Told) (h : Lookup) → TellsBlocks told h → TellsHeld
 tells-some None h t = absurd t
 tells-some (Some c) h t = tt
 
-module _ (X : List ℕ → List ℕ) (N : List ℕ → ℕ) (path : DagPath) (a b : Seen) (same : b.told ≡ a.told) (l : streams.Told) (i : ℕ) (h h2 : streams.Told) (w w2 t0 t1 : ℕ) (side : HostSide) where
+module _ (X : List ℕ → List ℕ) (N : List ℕ → ℕ) (path : DagPath) (a b : Seen) (same : b.told ≡ a.told) (l : streams.Told) (i : ℕ) (h h2 : streams.Told) (w w2 t0 t1 : ℕ) (side : HostSide) (er er2 : SinkSide) where
   -- what the reading says of what is printed
   abbrev said : Lookup → Result (List ℕ) Refusal
   said held = file_at path (tree_at held path)
@@ -299,7 +299,7 @@ module _ (X : List ℕ → List ℕ) (N : List ℕ → ℕ) (path : DagPath) (a 
 
   -- a refusal: the reading's, and then nothing is printed, or the store's own
   pub cat-refused : (why : Refusal) → IfSome a.told (λ t. IsOwnRefusal why ⊎ ((said (held_at t) ≡ Err why) × (h2 ≡ h))) → IfSome a.told (λ t. PrintsPart (said (held_at t)) h h2)
-      → (bytes : List ℕ) → h2 ≡ after h bytes → IsOfReading why → Shown X NoneIsBad (fault_behind why) a b → w2 ≡ w → Does X N (Cat path) (Err why) (around a l i h w t0 side) (around b l i h2 w2 t1 side)
+      → (bytes : List ℕ) → h2 ≡ after h bytes → IsOfReading why → Shown X NoneIsBad (fault_behind why) a b → w2 ≡ w → Does X N (Cat path) (Err why) (around a l i h w t0 side er) (around b l i h2 w2 t1 side er2)
   cat-refused why says part bytes sent of cause still =
       let plain = plain-of (Cat path) a.told l l i why of in
       let quiet = quiet-of (λ text. ⊤) true why plain.other in
@@ -334,7 +334,7 @@ module _ (X : List ℕ → List ℕ) (N : List ℕ → ℕ) (path : DagPath) (a 
 
   -- the whole file was sent
   pub cat-sent : IfSome a.told (λ t. (bytes : List ℕ) × (said (held_at t) ≡ Ok bytes) × (h2 ≡ after h bytes)) → (bytes : List ℕ) → h2 ≡ after h bytes → StaysCalm a b → w2 ≡ w
-      → Does X N (Cat path) (Ok tt) (around a l i h w t0 side) (around b l i h2 w2 t1 side)
+      → Does X N (Cat path) (Ok tt) (around a l i h w t0 side er) (around b l i h2 w2 t1 side er2)
   cat-sent says bytes sent calm still = record {
     answers = λ world finds input quiet. answered world finds.held (by-told (λ held. (bytes : List ℕ) × (said held ≡ Ok bytes) × (h2 ≡ after h bytes)) world.held finds.held says);
     lost = λ p es rows held bs named tells heights input quiet. over p es held bs named (by-told (λ held. (bytes : List ℕ) × (said held ≡ Ok bytes) × (h2 ≡ after h bytes)) held tells says);
@@ -367,7 +367,7 @@ module _ (X : List ℕ → List ℕ) (N : List ℕ → ℕ) (path : DagPath) (a 
 
   -- the output failed
   pub cat-cut : IfSome a.told (λ t. PrintsPart (said (held_at t)) h h2) → (bytes : List ℕ) → h2 ≡ after h bytes → StaysCalm a b → Counts true w w2
-      → Does X N (Cat path) (Err refusal.Write) (around a l i h w t0 side) (around b l i h2 w2 t1 side)
+      → Does X N (Cat path) (Err refusal.Write) (around a l i h w t0 side er) (around b l i h2 w2 t1 side er2)
   cat-cut part bytes sent calm counts = record {
     answers = λ world finds input quiet. absurd (not-rose w w2 (counts.rose refl) quiet.written.output);
     lost = λ p es rows held bs named tells heights input quiet. absurd (not-rose w w2 (counts.rose refl) quiet.written.output);

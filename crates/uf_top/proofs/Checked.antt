@@ -1,5 +1,5 @@
 -- The check of a proof that was asked for: as it was done, or not begun for want of memory.
-use Rattle.std.proofs.Common.{◌≡◌, ◌⊎◌, ℕ, List, [], Bool, refl, sym, subst, inl, inr, Result, Ok, Err}
+use Rattle.std.proofs.Common.{◌≡◌, ℕ, List, [], Bool, refl, sym, subst, inl, inr, Result, Ok, Err}
 use Rattle.uf_cid.specs.declared.cid.Cid.{Cid}
 use Rattle.uf_car.specs.Reading.{car_read}
 use Rattle.uf_light.specs.Answers.{OpensAs, opened}
@@ -9,11 +9,10 @@ use Rattle.uf_path.specs.declared.path.Path.{Path}
 use Rattle.uf_store.specs.declared.store.StoreFault.TheVariants as fault
 use Rattle.uf_command.specs.Statuses.{no_memory}
 use Rattle.uf_command.specs.Telling.{TellsEnd}
-use Rattle.uf_command.specs.declared.requests.Request.{Request}
 use Rattle.uf_command.specs.declared.requests.Request.TheVariants.{Check}
 use Rattle.uf_command.specs.declared.status.Status.{Status}
 use Rattle.uf_command.specs.declared.types.Refusal.{Refusal}
-use Rattle.uf_top.specs.Around.{Around}
+use Rattle.uf_top.specs.Around.{Around, Said}
 use Rattle.uf_top.specs.Checking.{RunsCheck}
 use Rattle.uf_top.specs.Light.{most_of_proof}
 use Rattle.uf_top.specs.Working.{IsIdle}
@@ -26,11 +25,11 @@ opens-wanting : (said : Result (Unit {0}) LightFault) → OpensAs {A = ℕ} said
 opens-wanting (Ok done) = tt
 opens-wanting (Err f) = inl refl
 
-module _ (Says : List ℕ → Type 0) (X : List ℕ → List ℕ) (N : List ℕ → ℕ) (given : Status) (done : Result (Unit {0}) Refusal) (a b : Around) (idle : IsIdle X N no_memory done a b) (t : TellsEnd Says done given) where
-  pub check-wants : (absent : Bool) (cid : Cid) (names : List (List ℕ)) → RunsCheck Says X N absent cid names given a b
-  check-wants absent cid names = subst (λ now. RunsCheck Says X N absent cid names given a now) (sym idle.same) (record {
+module _ (X : List ℕ → List ℕ) (N : List ℕ → ℕ) (given : Status) (done : Result (Unit {0}) Refusal) (a b : Around) (idle : IsIdle X N no_memory done a b) (t : TellsEnd (Said a.errors b.errors) done given) where
+  pub check-wants : (absent : Bool) (cid : Cid) (names : List (List ℕ)) → RunsCheck X N absent cid names given a b
+  check-wants absent cid names = subst (λ now. RunsCheck X N absent cid names given a now) (sym idle.same) (record {
     done = Err no_memory;
-    tells = wants Says given done idle.refused t;
+    tells = wants (Said a.errors b.errors) given done idle.refused t;
     checks = record {
       answer = Err (light.Store fault.Memory);
       checks = record {
@@ -52,10 +51,10 @@ module _ (Says : List ℕ → Type 0) (X : List ℕ → List ℕ) (N : List ℕ 
   })
 
 -- what was done of the request that was read is so of the one that was asked for
-module _ (Says : List ℕ → Type 0) (given : Status) (X : List ℕ → List ℕ) (N : List ℕ → ℕ) (a b : Around) where
-  pub checked-as : (absent asked : Bool) (cid other : Cid) (path to : Path) → Check absent cid path ≡ Check asked other to → RunsCheck Says X N absent cid path.names given a b → RunsCheck Says X N asked other to.names given a b
+module _ (given : Status) (X : List ℕ → List ℕ) (N : List ℕ → ℕ) (a b : Around) where
+  pub checked-as : (absent asked : Bool) (cid other : Cid) (path to : Path) → Check absent cid path ≡ Check asked other to → RunsCheck X N absent cid path.names given a b → RunsCheck X N asked other to.names given a b
   checked-as absent asked cid other path to same runs =
       let x : absent ≡ asked = cc in let y : cid ≡ other = cc in let z : path ≡ to = cc in
-      subst (λ n. RunsCheck Says X N n other to.names given a b) x
-      (subst (λ c. RunsCheck Says X N absent c to.names given a b) y
-      (subst (λ (p : Path). RunsCheck Says X N absent cid p.names given a b) z runs))
+      subst (λ n. RunsCheck X N n other to.names given a b) x
+      (subst (λ c. RunsCheck X N absent c to.names given a b) y
+      (subst (λ (p : Path). RunsCheck X N absent cid p.names given a b) z runs))

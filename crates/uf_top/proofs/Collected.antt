@@ -41,7 +41,7 @@ use Rattle.uf_command.specs.Telling.{TellsEnd}
 use Rattle.uf_command.specs.declared.status.Status.{Status}
 use Rattle.uf_command.specs.declared.types.Refusal.{Refusal}
 use Rattle.uf_command.specs.declared.types.Refusal.TheVariants as refusal
-use Rattle.uf_top.specs.Around.{Around}
+use Rattle.uf_top.specs.Around.{Around, Said}
 use Rattle.uf_top.specs.Collecting.{EachSweepOutcome, FailsAs, GoesAs, KeepsFor, KeepsList, LeavesSome, LetsGoAndPrints, ReadsRoots, RunsGc, below_told, kept_below, kept_in, order_told, root_told, tree_roots}
 use Rattle.uf_top.specs.Outcomes.{IsSafeFor, LeavesTree}
 use Rattle.uf_top.specs.Working.{IsIdle}
@@ -239,7 +239,7 @@ module _ (X : List ℕ → List ℕ) (N : List ℕ → ℕ) (good : IsHash X) (s
 
 -- ---- as `run` says it
 
-module _ (Says : List ℕ → Type 0) (X : List ℕ → List ℕ) (N : List ℕ → ℕ) (given : Status) (done : Result (Unit {0}) Refusal) (a b : Around) where
+module _ (X : List ℕ → List ℕ) (N : List ℕ → ℕ) (given : Status) (done : Result (Unit {0}) Refusal) (a b : Around) where
   -- a collection was done, or refused
   module _ (good : IsHash X) (small : (name : List ℕ) → N name < 2 ^ 64) (does : LetsGoAndPrints X done a.store b.store a.held b.held a.writes b.writes) where
     over-of : (t : Contents) (listed : Option (List Cid)) → a.store.told ≡ Some t → IsReadAs t.notes.pins listed → LeftOver t b.store.told (kept_in t listed)
@@ -257,7 +257,7 @@ module _ (Says : List ℕ → Type 0) (X : List ℕ → List ℕ) (N : List ℕ 
         let found = note-read t.notes.pins in
         safe-left X N good small t u found.0 p es (subst (λ (x : Told). LeftOver t x (kept_in t found.0)) now (over-of t found.0 is found.1)) h
 
-    pub gc-runs : TellsEnd Says done given → b.left ≡ a.left → b.reads ≡ a.reads → b.host ≡ a.host → RunsGc Says X N given a b
+    pub gc-runs : TellsEnd (Said a.errors b.errors) done given → b.left ≡ a.left → b.reads ≡ a.reads → b.host ≡ a.host → RunsGc X N given a b
     gc-runs t left reads host = record {
       done = done;
       tells = t;
@@ -271,10 +271,10 @@ module _ (Says : List ℕ → Type 0) (X : List ℕ → List ℕ) (N : List ℕ 
     }
 
   -- one for whose words there was no memory
-  pub gc-wants : IsIdle X N no_memory done a b → TellsEnd Says done given → RunsGc Says X N given a b
-  gc-wants idle t = subst (λ (now : Around). RunsGc Says X N given a now) (sym idle.same) (record {
+  pub gc-wants : IsIdle X N no_memory done a b → TellsEnd (Said a.errors b.errors) done given → RunsGc X N given a b
+  gc-wants idle t = subst (λ (now : Around). RunsGc X N given a now) (sym idle.same) (record {
     done = Err no_memory;
-    tells = wants Says given done idle.refused t;
+    tells = wants (Said a.errors b.errors) given done idle.refused t;
     collects = record {
       gone = Err no_memory;
       lets_go = record { goes = λ c listed is read. inr (inl is); cause = calm-memory a.store a.store (StaysCalm-refl a.store) };

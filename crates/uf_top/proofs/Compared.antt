@@ -27,7 +27,7 @@ use Rattle.uf_command.specs.declared.types.DagRule.{DagRule}
 use Rattle.uf_command.specs.declared.types.Refusal.{Refusal}
 use Rattle.uf_command.specs.declared.types.Refusal.TheVariants as refusal
 use Rattle.uf_top.specs.Answering.{DoesAnswer}
-use Rattle.uf_top.specs.Around.{HostSide, RisesFor, around}
+use Rattle.uf_top.specs.Around.{HostSide, RisesFor, SinkSide, around}
 use Rattle.uf_top.specs.Cars.{ByOwnStore, ComparesCar}
 use Rattle.uf_top.specs.Causes.{IsBadIn, IsReadyBy}
 use Rattle.uf_top.specs.Endings.{EndsBy, PrintsPart}
@@ -77,7 +77,7 @@ printed-sections X left a b text h h2 w v (Err why) p = subst (ByOwnStore X OfCa
 
 -- ---- its text is printed
 
-module _ (X : List ℕ → List ℕ) (N : List ℕ → ℕ) (cid : Cid) (a b : Seen) (same : b.told ≡ a.told) (l m : streams.Told) (i j t0 t1 : ℕ) (h : streams.Told) (w : ℕ) (side : HostSide) where
+module _ (X : List ℕ → List ℕ) (N : List ℕ → ℕ) (cid : Cid) (a b : Seen) (same : b.told ≡ a.told) (l m : streams.Told) (i j t0 t1 : ℕ) (h : streams.Told) (w : ℕ) (side : HostSide) (er er2 : SinkSide) where
   abbrev Wants : Result (List ℕ) Refusal → Lookup → List ℕ → Type 0
   Wants ends held bytes = (ends ≡ Err no_memory) ⊎ (ends ≡ car_compared held cid (car_read X most_car bytes))
 
@@ -88,7 +88,7 @@ module _ (X : List ℕ → List ℕ) (N : List ℕ → ℕ) (cid : Cid) (a b : S
       by None tells = absurd tells
       by (Some t) tells = refl
 
-  pub uncompared-does : (why : Refusal) → ComparesCar X cid (Err why) a b l i j → Does X N (Same cid) (Err why) (around a l i h w t0 side) (around b m j h w t1 side)
+  pub uncompared-does : (why : Refusal) → ComparesCar X cid (Err why) a b l i j → Does X N (Same cid) (Err why) (around a l i h w t0 side er) (around b m j h w t1 side er2)
   uncompared-does why k =
       let of = of-comparing a.told cid why k.kinds in
       let quiet = quiet-of (λ text. ⊤) false why of.other in
@@ -128,7 +128,7 @@ module _ (X : List ℕ → List ℕ) (N : List ℕ → ℕ) (cid : Cid) (a b : S
     text-is held bytes (inl e) = absurd cc
     text-is held bytes (inr e) = e
 
-    printed : h2 ≡ after h text → Counts false w v → Does X N (Same cid) (Ok tt) (around a l i h w t0 side) (around b m j h2 v t1 side)
+    printed : h2 ≡ after h text → Counts false w v → Does X N (Same cid) (Ok tt) (around a l i h w t0 side er) (around b m j h2 v t1 side er2)
     printed is counts = record {
       answers = λ world finds input calm. answered world finds.held (text-is world.held world.input (k.says world.held world.input finds.held (input.0 refl).0 (input.0 refl).1 calm.store));
       lost = λ p es rows held outside named tells heights input calm. over p es held outside named (text-is held outside.input (k.says held outside.input tells (input.0 refl).0 (input.0 refl).1 calm.store));
@@ -157,7 +157,7 @@ module _ (X : List ℕ → List ℕ) (N : List ℕ → ℕ) (cid : Cid) (a b : S
             → DoesOver X N a.told b.told p es [] (reply X N (Same cid) (in_world p es held outside)) (Ok tt) h h2
         over p es held outside named e = inr (record { ends = subst (λ x. EndsBy x (Ok tt) h h2) e (refl, is); stands = names-same X N a.told b.told p es same named })
 
-    cut : IsCut text refusal.Write h h2 w v → Does X N (Same cid) (Err refusal.Write) (around a l i h w t0 side) (around b m j h2 v t1 side)
+    cut : IsCut text refusal.Write h h2 w v → Does X N (Same cid) (Err refusal.Write) (around a l i h w t0 side er) (around b m j h2 v t1 side er2)
     cut c = record {
       answers = λ world finds input calm. absurd (not-rose w v (c.counts.rose refl) calm.written.output);
       lost = λ p es rows held outside named tells heights input calm. absurd (not-rose w v (c.counts.rose refl) calm.written.output);
@@ -180,8 +180,8 @@ module _ (X : List ℕ → List ℕ) (N : List ℕ → ℕ) (cid : Cid) (a b : S
     }
 
     -- or the output failed
-    pub compared-does : (r : Result (Unit {0}) Refusal) → Prints text r h h2 w v → Does X N (Same cid) r (around a l i h w t0 side) (around b m j h2 v t1 side)
+    pub compared-does : (r : Result (Unit {0}) Refusal) → Prints text r h h2 w v → Does X N (Same cid) r (around a l i h w t0 side er) (around b m j h2 v t1 side er2)
     compared-does (Ok done) p = printed p.0 p.1
     compared-does (Err why) c =
         let e = c.write in
-        subst (λ (r : Refusal). Does X N (Same cid) (Err r) (around a l i h w t0 side) (around b m j h2 v t1 side)) (sym e) (cut (subst (λ (r : Refusal). IsCut text r h h2 w v) e c))
+        subst (λ (r : Refusal). Does X N (Same cid) (Err r) (around a l i h w t0 side er) (around b m j h2 v t1 side er2)) (sym e) (cut (subst (λ (r : Refusal). IsCut text r h h2 w v) e c))

@@ -1,5 +1,5 @@
 -- No count falls over a command.
-use Rattle.std.proofs.Common.{◌≡◌, ℕ, ◌≤◌, List, Bool, true, false, arith, refl, sym, ap, subst, ◌∙◌, inl, inr, Result, Ok, Err}
+use Rattle.std.proofs.Common.{◌≡◌, ℕ, ◌≤◌, List, Bool, true, false, arith, refl, sym, ap, subst, ◌∙◌, inl, inr, Result}
 use Rattle.uf_edge.specs.Counts.{Rose, Stood}
 use Rattle.uf_store.specs.Faults.{Rises}
 use Rattle.uf_store.specs.Seen.{Seen}
@@ -8,9 +8,10 @@ use Rattle.uf_command.specs.Natures.{uses_host, writes_host}
 use Rattle.uf_command.specs.Kinds.{refusal_fault}
 use Rattle.uf_command.specs.declared.types.Command.{Command}
 use Rattle.uf_command.specs.declared.types.Refusal.{Refusal}
-use Rattle.uf_top.specs.Around.{Around, HostSide, NoneFalls, RisesFor, StandsOrRose, TakesHost, is_output_write}
+use Rattle.uf_top.specs.Around.{Around, HostSide, NoneFalls, RisesFor, SameButErrors, SinkSide, StandsOrRose, TakesHost, is_output_write}
 use Rattle.uf_top.specs.Causes.{IsBadIn, is_read, is_write}
 use Rattle.uf_top.specs.Working.{Does}
+use Rattle.uf_top.specs.Batch.{with_output}
 
 -- ---- one count after the other
 
@@ -49,11 +50,16 @@ rises-then a b c p q = record {
 
 -- ---- all of them
 
-none-refl : (a : Around) → NoneFalls a a
-none-refl a = record { store = rises-refl a.store; reads = omega arith; writes = inl refl; host_reads = omega arith; host_writes = omega arith }
+-- all is as before, and so all but the error lines
+pub but-errors : {a b : Around} → b ≡ a → SameButErrors a b
+but-errors {a} {b} same = subst (SameButErrors a) (sym same) refl
 
-pub none-same : (a b : Around) → b ≡ a → NoneFalls a b
-none-same a b same = subst (NoneFalls a) (sym same) (none-refl a)
+-- an output and error lines in place of those that are there
+abbrev pub with_sinks : SinkSide → SinkSide → Around → Around
+with_sinks output errors a = record (with_output output a) { errors = errors }
+
+pub none-same : (a b : Around) → SameButErrors a b → NoneFalls a b
+none-same a b same = subst (NoneFalls a) (sym same) (record { store = rises-refl a.store; reads = omega arith; writes = inl refl; host_reads = omega arith; host_writes = omega arith })
 
 pub none-then : (a b c : Around) → NoneFalls a b → NoneFalls b c → NoneFalls a c
 none-then a b c p q = record {

@@ -30,7 +30,7 @@ use Rattle.uf_command.specs.declared.types.Command.TheVariants.{Export}
 use Rattle.uf_command.specs.declared.types.Refusal.{Refusal}
 use Rattle.uf_command.specs.declared.types.Refusal.TheVariants as refusal
 use Rattle.uf_top.specs.Answering.{DoesAnswer}
-use Rattle.uf_top.specs.Around.{HostSide, RisesFor, around}
+use Rattle.uf_top.specs.Around.{HostSide, RisesFor, SinkSide, around}
 use Rattle.uf_top.specs.Causes.{IsBadIn}
 use Rattle.uf_top.specs.Endings.{EndsBy, PrintsPart}
 use Rattle.uf_top.specs.Foreign.{IsOfReading, IsOwnRefusal}
@@ -107,7 +107,7 @@ module _ (held : Lookup) (root : Cid) (h h2 : streams.Told) where
 
 -- ---- how it is done
 
-module _ (X : List ℕ → List ℕ) (N : List ℕ → ℕ) (cid : Cid) (a b : Seen) (same : b.told ≡ a.told) (l : streams.Told) (i : ℕ) (h h2 : streams.Told) (w w2 t0 t1 : ℕ) (side : HostSide) where
+module _ (X : List ℕ → List ℕ) (N : List ℕ → ℕ) (cid : Cid) (a b : Seen) (same : b.told ≡ a.told) (l : streams.Told) (i : ℕ) (h h2 : streams.Told) (w w2 t0 t1 : ℕ) (side : HostSide) (er er2 : SinkSide) where
   by-told : (A : Lookup → Type 0) (held : Lookup) → TellsBlocks a.told held → IfSome a.told (λ t. A (held_at t)) → A held
   by-told A held tells h = by a.told tells h
     where
@@ -130,7 +130,7 @@ module _ (X : List ℕ → List ℕ) (N : List ℕ → ℕ) (cid : Cid) (a b : S
 
   -- a refusal: that of the order, and then nothing is printed, or the store's own
   refused : (why : Refusal) → IfSome a.told (λ t. Refuses why (held_at t)) → IfSome a.told (λ t. PrintsPart (said (held_at t) cid h h2) h h2)
-      → (bytes : List ℕ) → h2 ≡ after h bytes → IsOfReading why → Shown X NoneIsBad (fault_behind why) a b → w2 ≡ w → Does X N (Export cid) (Err why) (around a l i h w t0 side) (around b l i h2 w2 t1 side)
+      → (bytes : List ℕ) → h2 ≡ after h bytes → IsOfReading why → Shown X NoneIsBad (fault_behind why) a b → w2 ≡ w → Does X N (Export cid) (Err why) (around a l i h w t0 side er) (around b l i h2 w2 t1 side er2)
   refused why says part bytes sent of cause still =
       let plain = plain-of (Export cid) a.told l l i why of in
       let quiet = quiet-of (λ text. ⊤) true why plain.other in
@@ -165,7 +165,7 @@ module _ (X : List ℕ → List ℕ) (N : List ℕ → ℕ) (cid : Cid) (a b : S
 
   -- the whole CAR was sent
   sent-whole : IfSome a.told (λ t. Whole (held_at t)) → (bytes : List ℕ) → h2 ≡ after h bytes → StaysCalm a b → w2 ≡ w
-      → Does X N (Export cid) (Ok tt) (around a l i h w t0 side) (around b l i h2 w2 t1 side)
+      → Does X N (Export cid) (Ok tt) (around a l i h w t0 side er) (around b l i h2 w2 t1 side er2)
   sent-whole says bytes sent calm still = record {
     answers = λ world finds input quiet. answered world finds.held (by-told Whole world.held finds.held says);
     lost = λ p es rows held bs named tells heights input quiet. over p es held bs named (by-told Whole held tells says);
@@ -198,7 +198,7 @@ module _ (X : List ℕ → List ℕ) (N : List ℕ → ℕ) (cid : Cid) (a b : S
 
   -- the output failed
   cut : IfSome a.told (λ t. PrintsPart (said (held_at t) cid h h2) h h2) → (bytes : List ℕ) → h2 ≡ after h bytes → StaysCalm a b → Counts true w w2
-      → Does X N (Export cid) (Err refusal.Write) (around a l i h w t0 side) (around b l i h2 w2 t1 side)
+      → Does X N (Export cid) (Err refusal.Write) (around a l i h w t0 side er) (around b l i h2 w2 t1 side er2)
   cut part bytes sent calm counts = record {
     answers = λ world finds input quiet. absurd (not-rose w w2 (counts.rose refl) quiet.written.output);
     lost = λ p es rows held bs named tells heights input quiet. absurd (not-rose w w2 (counts.rose refl) quiet.written.output);
@@ -223,18 +223,18 @@ module _ (X : List ℕ → List ℕ) (N : List ℕ → ℕ) (cid : Cid) (a b : S
   -- ---- by what the export answers
 
   pub car-sent : (n : ℕ) → ((t : Contents) → a.told ≡ Some t → Exports (held_at t) most_blocks cid (Ok n) h h2) → WritesSome h h2 → StaysCalm a b → Counts false w w2
-      → Does X N (Export cid) (Ok tt) (around a l i h w t0 side) (around b l i h2 w2 t1 side)
+      → Does X N (Export cid) (Ok tt) (around a l i h w t0 side er) (around b l i h2 w2 t1 side er2)
   car-sent n exports some calm counts =
       sent-whole (told-each (λ t. Whole (held_at t)) a.told (λ t is. all-said (held_at t) cid h h2 n (exports t is))) some.0 some.1 calm (counts.still refl)
 
   pub car-unsent : (f : ExportFault) → ((t : Contents) → a.told ≡ Some t → Exports (held_at t) most_blocks cid (Err f) h h2) → WritesSome h h2 → Shown X NoneIsBad (export_fault {A = ℕ} (Err f)) a b
-      → Counts (is_sink_fault {A = ℕ} (Err f)) w w2 → Does X N (Export cid) (Err (export_refusal f)) (around a l i h w t0 side) (around b l i h2 w2 t1 side)
+      → Counts (is_sink_fault {A = ℕ} (Err f)) w w2 → Does X N (Export cid) (Err (export_refusal f)) (around a l i h w t0 side er) (around b l i h2 w2 t1 side er2)
   car-unsent f exports some cause counts =
       by f (λ other. told-each (λ t. Refuses (export_refusal f) (held_at t)) a.told (λ t is. fault-said (held_at t) cid h h2 f other (exports t is)))
       (told-each (λ t. PrintsPart (said (held_at t) cid h h2) h h2) a.told (λ t is. part-said (held_at t) cid h h2 (Err f) (exports t is))) cause counts
     where
       by : (f : ExportFault) → (is_sink_fault {A = ℕ} (Err f) ≡ false → IfSome a.told (λ t. Refuses (export_refusal f) (held_at t))) → IfSome a.told (λ t. PrintsPart (said (held_at t) cid h h2) h h2)
-          → Shown X NoneIsBad (export_fault {A = ℕ} (Err f)) a b → Counts (is_sink_fault {A = ℕ} (Err f)) w w2 → Does X N (Export cid) (Err (export_refusal f)) (around a l i h w t0 side) (around b l i h2 w2 t1 side)
+          → Shown X NoneIsBad (export_fault {A = ℕ} (Err f)) a b → Counts (is_sink_fault {A = ℕ} (Err f)) w w2 → Does X N (Export cid) (Err (export_refusal f)) (around a l i h w t0 side er) (around b l i h2 w2 t1 side er2)
       by export.Sink says part cause counts = cut part some.0 some.1 cause counts
       by (export.NotDagPb c why) says part cause counts = refused (export_refusal (export.NotDagPb c why)) (says refl) part some.0 some.1 tt cause (counts.still refl)
       by export.TooMany says part cause counts = refused (export_refusal export.TooMany) (says refl) part some.0 some.1 tt cause (counts.still refl)

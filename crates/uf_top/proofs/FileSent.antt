@@ -53,7 +53,7 @@ use Rattle.uf_command.specs.declared.types.Command.TheVariants.{At, Read}
 use Rattle.uf_command.specs.declared.types.Refusal.{Refusal}
 use Rattle.uf_command.specs.declared.types.Refusal.TheVariants as refusal
 use Rattle.uf_top.specs.Answering.{DoesReply, DoesWant}
-use Rattle.uf_top.specs.Around.{HostSide, RisesFor, around}
+use Rattle.uf_top.specs.Around.{HostSide, RisesFor, SinkSide, around}
 use Rattle.uf_top.specs.Causes.{IsBadIn, IsReady, IsReadyBy, IsSendingFault, RefusesOpening, RefusesSending, is_read, is_write}
 use Rattle.uf_top.specs.Endings.{FindsAll, PrintsAt, PrintsPart, RuleOf}
 use Rattle.uf_top.specs.Losing.{DoesOver, part_needs, rows_found}
@@ -301,16 +301,16 @@ not-sink w v hash P a b (Err (mfs.Ready why)) shown stood = λ e. cc
 not-sink w v hash P a b (Err mfs.Sink) shown stood = λ e. (let rose = shown.1 in omega (arith, rose, stood))
 not-sink w v hash P a b (Err (mfs.Store f)) shown stood = λ e. cc
 
-module _ (X : List ℕ → List ℕ) (N : List ℕ → ℕ) (offset count : ℕ) (path : Path) (a m : Seen) (told : m.told ≡ a.told) (l : streams.Told) (i : ℕ) (h : streams.Told) (w t0 t1 : ℕ) (opens_by : t1 ≤ t0 + 1) (side : HostSide) where
+module _ (X : List ℕ → List ℕ) (N : List ℕ → ℕ) (offset count : ℕ) (path : Path) (a m : Seen) (told : m.told ≡ a.told) (l : streams.Told) (i : ℕ) (h : streams.Told) (w t0 t1 : ℕ) (opens_by : t1 ≤ t0 + 1) (side : HostSide) (er er2 : SinkSide) where
   -- ---- the tree isn't opened
 
   pub send-unopened : (f : MfsFault) (why : Refusal) → RefusesOpening f why → ((s : Standing) → TellsAs X N a.told s → Stood a.faults m.faults → Opens X N m.told s (Err f))
       → ((p : Profile) (es : Entries) → NamesOver X N a.told p es → Stood a.faults m.faults → OpensOver X N a.told p es (Err f))
       → ReadsHead a.told (Err f) → CountsUp (tree_fault {A = Mfs} (Err f)) t0 t1 → ShownOpening X (IsBadInHead X N a.told) {A = Mfs} (Err f) a m
-      → Does X N (Read offset count path) (Err why) (around a l i h w t0 side) (around m l i h w t1 side)
-  send-unopened f why is opens lost head up cause = refused-does X N (Read offset count path) refl a m l l i i t0 t1 h w side side why makes
+      → Does X N (Read offset count path) (Err why) (around a l i h w t0 side er) (around m l i h w t1 side er2)
+  send-unopened f why is opens lost head up cause = refused-does X N (Read offset count path) refl a m l l i i t0 t1 h w side side er er2 why makes
     where
-      makes : Makes X N (Read offset count path) (Err why) (around a l i h w t0 side) (around m l i h w t1 side)
+      makes : Makes X N (Read offset count path) (Err why) (around a l i h w t0 side er) (around m l i h w t1 side er2)
       makes = record {
         answers = λ world stands input calm. not-opened X N world.standing (read_reply offset count path.names) f why m.told is (opens world.standing stands calm.faults) (stands-same X N a.told m.told world.standing told stands);
         lost = λ p es rows held bytes named input calm.
@@ -394,7 +394,7 @@ module _ (X : List ℕ → List ℕ) (N : List ℕ → ℕ) (offset count : ℕ)
             let calm2 = subst (λ q. ShownSending X (IsBadRead X N m.told found.root.cid) q m b w w2) is cause in
             lost p es height at high (stood-calm m.faults b.faults calm2.0.faults (room-kept had)) (λ e. (let k : Ok n ≡ Err mfs.Sink = sym is ∙ e in cc))
 
-    pub sends-does : Does X N (Read offset count path) done (around a l i h w t0 side) (around b l i h2 w2 t2 side)
+    pub sends-does : Does X N (Read offset count path) done (around a l i h w t0 side er) (around b l i h2 w2 t2 side er2)
     sends-does = record {
       answers = λ world finds input quiet. of-no-host (ok-answer world.standing finds.stands quiet.store.faults (not-sink w w2 X (IsBadRead X N m.told found.root.cid) m b r cause quiet.written.output));
       lost = λ p es rows held bytes named tells heights input quiet.

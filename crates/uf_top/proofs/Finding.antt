@@ -1,5 +1,5 @@
 -- Stores that stand: no block is missing or bad, and what changes nothing writes nothing.
-use Rattle.std.proofs.Common.{◌≡◌, ◌≢◌, ℕ, List, Bool, true, false, refl, sym, ap, subst, ◌∙◌, inl, inr, Some, Result, Ok, Err}
+use Rattle.std.proofs.Common.{◌≡◌, ◌≢◌, ℕ, List, Bool, true, false, refl, sym, ap, subst, ◌∙◌, inl, inr, Result, Ok, Err}
 use Rattle.uf_plain.specs.Edits.{at}
 use Rattle.uf_mfs.specs.Standing.{NamesOver, StandsOver, head_in}
 use Rattle.uf_mfs.specs.declared.mfs.Mfs.{Mfs}

@@ -41,7 +41,7 @@ use Rattle.uf_command.specs.declared.types.HostRule.TheVariants as rules
 use Rattle.uf_command.specs.declared.types.Refusal.{Refusal}
 use Rattle.uf_command.specs.declared.types.Refusal.TheVariants as refusal
 use Rattle.uf_top.specs.Answering.{DoesAnswer}
-use Rattle.uf_top.specs.Around.{HostSide, around}
+use Rattle.uf_top.specs.Around.{HostSide, SinkSide, around}
 use Rattle.uf_top.specs.Causes.{IsBadIn, IsReady, IsReadyBy, is_read, is_write}
 use Rattle.uf_top.specs.Endings.{EndsBy, PrintsAt, RuleOf}
 use Rattle.uf_top.specs.Foreign.{FindsTree, IsOfReading, IsOwnRefusal, LeadsTo}
@@ -411,7 +411,7 @@ of-getting hash a b told source path l (refusal.Store (fault.BadBlock cid role))
 of-getting hash a b told source path l (refusal.Store (fault.Clash cid first second)) of h = record { kinds = refl; ready = tt; rule = λ e. absurd cc; prints = λ held. refl; blames = λ blames. blames }
 of-getting hash a b told source path l (refusal.Store fault.Memory) of h = record { kinds = refl; ready = tt; rule = λ e. absurd cc; prints = λ held. refl; blames = λ blames. blames }
 
-module _ (X : List ℕ → List ℕ) (N : List ℕ → ℕ) (source : DagPath) (path : List ℕ) (a b : Seen) (same : b.told ≡ a.told) (l : streams.Told) (i : ℕ) (h : streams.Told) (w t0 t1 : ℕ) (s t : HostSide) where
+module _ (X : List ℕ → List ℕ) (N : List ℕ → ℕ) (source : DagPath) (path : List ℕ) (a b : Seen) (same : b.told ≡ a.told) (l : streams.Told) (i : ℕ) (h : streams.Told) (w t0 t1 : ℕ) (s t : HostSide) (er er2 : SinkSide) where
   by-told : (A : Lookup → Type 0) (held : Lookup) → TellsBlocks a.told held → IfSome a.told (λ t. A (held_at t)) → A held
   by-told A held tells h = by a.told tells h
     where
@@ -498,7 +498,7 @@ module _ (X : List ℕ → List ℕ) (N : List ℕ → ℕ) (source : DagPath) (
     so : IsEnded done
     so = ended-of done kind cause
 
-    pub get-does : Does X N (Get source path) done (around a l i h w t0 s) (around b l i h w t1 t)
+    pub get-does : Does X N (Get source path) done (around a l i h w t0 s er) (around b l i h w t1 t er2)
     get-does = record {
       answers = λ world finds input quiet. answered world finds.held (by-told (λ held. IsTold held world.host done) world.held finds.held
           (each-told (λ held. IsTold held world.host done) (λ held. told-so held world.host (input.1 refl).0 (input.1 refl).1 (quiet.written.host refl) quiet.store)));

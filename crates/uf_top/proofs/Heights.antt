@@ -1,5 +1,5 @@
 -- Files of a profile have heights.
-use Rattle.std.proofs.Common.{◌≡◌, ℕ, ◌≤◌, zero, suc, List, [], length, arith, refl, ap, subst}
+use Rattle.std.proofs.Common.{◌≡◌, ℕ, ◌≤◌, zero, suc, [], length, arith, refl, ap, subst}
 use Rattle.std.specs.Prelude.{IsTrue, replicate}
 use Rattle.uf_mfs.specs.Reading.{AreHeights}
 use Rattle.uf_tree.specs.FileSub.{IsHeight}

@@ -38,7 +38,7 @@ use Rattle.uf_command.specs.declared.types.HostRule.{HostRule}
 use Rattle.uf_command.specs.declared.types.Refusal.{Refusal}
 use Rattle.uf_command.specs.declared.types.Refusal.TheVariants as refusal
 use Rattle.uf_top.specs.Answering.{Answers}
-use Rattle.uf_top.specs.Around.{HostSide, OnlyReadsHost, around}
+use Rattle.uf_top.specs.Around.{HostSide, OnlyReadsHost, SinkSide, around}
 use Rattle.uf_top.specs.Bounds.{command_touches}
 use Rattle.uf_top.specs.Causes.{AddsBy, HoldsUnless, IsBadIn, IsProfileIn, IsProfileOf, IsProfileRead, IsReady, IsReason, IsUnread, OnlyWants, Stops, is_read, or_usual}
 use Rattle.uf_top.specs.Endings.{FindsAll}
@@ -305,10 +305,10 @@ module _ (X : List ℕ → List ℕ) (N : List ℕ → ℕ) where
 
   -- ---- how it is done
 
-  module _ (good : IsHash X) (recursive : Bool) (path : List ℕ) (a m : Seen) (told : m.told ≡ a.told) (side : HostSide) (l : streams.Told) (i : ℕ) (h : streams.Told) (w : ℕ) where
+  module _ (good : IsHash X) (recursive : Bool) (path : List ℕ) (a m : Seen) (told : m.told ≡ a.told) (side : HostSide) (er er2 : SinkSide) (l : streams.Told) (i : ℕ) (h : streams.Told) (w : ℕ) where
     -- the Head isn't read, or not in memory
     pub from-unread : (only_hash : Bool) (t0 : ℕ) (why : Refusal) → IsProfileRead (Err why) a.told → ShownIn {A = Option Profile} X (Err why) a m
-        → Makes X N (Add (adding.Host recursive only_hash path)) (Err why) (around a l i h w t0 side) (around m l i h w t0 side)
+        → Makes X N (Add (adding.Host recursive only_hash path)) (Err why) (around a l i h w t0 side er) (around m l i h w t0 side er2)
     from-unread only_hash t0 why read shown =
         let end = head-end a.told why read in
         record {
@@ -330,7 +330,7 @@ module _ (X : List ℕ → List ℕ) (N : List ℕ → ℕ) where
 
     -- there is none, where one is needed
     pub from-no-head : (t0 : ℕ) → IfSome a.told (λ t. t.notes.head ≡ None) → StaysCalm a m
-        → Makes X N (Add (adding.Host recursive false path)) (Err (refusal.Ready ready.NoHead)) (around a l i h w t0 side) (around m l i h w t0 side)
+        → Makes X N (Add (adding.Host recursive false path)) (Err (refusal.Ready ready.NoHead)) (around a l i h w t0 side er) (around m l i h w t0 side er2)
     from-no-head t0 none calm = record {
       answers = λ world stands outside calm2. absent-answers good recursive path world.host world.standing a.told m.told stands (stands-same X N a.told m.told world.standing told stands) none;
       lost = λ p es rows held outside named given calm2. absurd (names-there X N a.told p es named.names none);
@@ -350,7 +350,7 @@ module _ (X : List ℕ → List ℕ) (N : List ℕ → ℕ) where
     module _ (calm : StaysCalm a m) (r : Result (List ℕ) Refusal) (side2 : HostSide) (reads : OnlyReadsHost (is_read r) side side2) where
       -- what the host has is added by the profile of the Head
       pub is-kept : (p : Profile) (b : Seen) (t0 t1 : ℕ) → IfSome a.told (λ t. IsProfileIn (Some p) t.notes.head) → MakesHostText X N p b.told side.told recursive path r → ShownIn X r m b → KeepsGood X m.told b.told
-          → WritesAs X SyncsBlocks (is_ok r) m.told b.told → Makes X N (Add (adding.Host recursive false path)) r (around a l i h w t0 side) (around b l i h w t1 side2)
+          → WritesAs X SyncsBlocks (is_ok r) m.told b.told → Makes X N (Add (adding.Host recursive false path)) r (around a l i h w t0 side er) (around b l i h w t1 side2 er2)
       is-kept p b t0 t1 says text shown kept writes =
           let keeps = subst (λ t. KeepsGood X t b.told) told kept in
           let written = subst (λ t. WritesAs X SyncsBlocks (is_ok r) t b.told) told writes in
@@ -384,7 +384,7 @@ module _ (X : List ℕ → List ℕ) (N : List ℕ → ℕ) where
 
       -- its rows are made, and nothing is kept
       pub is-only-hashed : (found : Option Profile) (p : Profile) (t0 : ℕ) → p ≡ or_usual found → IfSome a.told (λ t. IsProfileIn found t.notes.head) → MakesHostText X N p None side.told recursive path r → OnlyWants r
-          → Makes X N (Add (adding.Host recursive true path)) r (around a l i h w t0 side) (around m l i h w t0 side2)
+          → Makes X N (Add (adding.Host recursive true path)) r (around a l i h w t0 side er) (around m l i h w t0 side2 er2)
       is-only-hashed found p t0 is says text wants =
           let shown = wants-shown X r a m wants calm in
           let kinds = text-kinds p None side.told recursive path r text in

@@ -1,7 +1,7 @@
 -- How a CAR is read into the store, and its roots printed.
 use Rattle.std.proofs.Common.{◌≡◌, ◌≢◌, ◌⊎◌, ℕ, List, [], false, true, arith, refl, sym, ap, subst, ◌∙◌, inl, inr, take, Some, None, Result, Ok, Err}
 use Rattle.std.proofs.lemmas.List.{take_all}
-use Rattle.std.specs.Prelude.{IfOk, IfSome, IsSome, OnErr, OnOk, ⊤}
+use Rattle.std.specs.Prelude.{IfOk, IfSome, IsSome, OnErr, OnOk}
 use Rattle.std.specs.List.{flat_map}
 use Rattle.uf_car.specs.Importing.{ImportsCar, car_fault, is_source_fault, stops, with_saves}
 use Rattle.uf_car.specs.Reading.{car_read}
@@ -38,7 +38,7 @@ use Rattle.uf_command.specs.declared.types.Command.TheVariants.{Import}
 use Rattle.uf_command.specs.declared.types.Refusal.{Refusal}
 use Rattle.uf_command.specs.declared.types.Refusal.TheVariants as refusal
 use Rattle.uf_top.specs.Answering.{DoesAnswer}
-use Rattle.uf_top.specs.Around.{CountsCanRise, HostSide, RisesFor, around}
+use Rattle.uf_top.specs.Around.{CountsCanRise, HostSide, RisesFor, SinkSide, around}
 use Rattle.uf_top.specs.Cars.{AddsCar, IsImported, KeepsCar, TellsRoots}
 use Rattle.uf_top.specs.Causes.{IsBadIn, IsReadyBy, Stops, is_read}
 use Rattle.uf_top.specs.Endings.{EndsBy, PrintsPart}
@@ -244,7 +244,7 @@ of-car told (refusal.OwnClash cid first second) h = absurd cc
 
 -- ---- its roots are printed
 
-module _ (X : List ℕ → List ℕ) (N : List ℕ → ℕ) (a b : Seen) (l m : streams.Told) (i j t0 t1 : ℕ) (h : streams.Told) (w : ℕ) (side : HostSide) where
+module _ (X : List ℕ → List ℕ) (N : List ℕ → ℕ) (a b : Seen) (l m : streams.Told) (i j t0 t1 : ℕ) (h : streams.Told) (w : ℕ) (side : HostSide) (er er2 : SinkSide) where
   still-told : KeepsGood X a.told b.told → IsSome a.told → IsSome b.told
   still-told good some = by a.told b.told good some
     where
@@ -256,7 +256,7 @@ module _ (X : List ℕ → List ℕ) (N : List ℕ → ℕ) (a b : Seen) (l m : 
   abbrev NamesKept : Profile → Entries → Type 0
   NamesKept p es = NamesAfter X N a.told b.told (blocks X N p (Dir es)) p es
 
-  pub unkept-does : (why : Refusal) → KeepsCar X (Err why) a b l i j → Does X N Import (Err why) (around a l i h w t0 side) (around b m j h w t1 side)
+  pub unkept-does : (why : Refusal) → KeepsCar X (Err why) a b l i j → Does X N Import (Err why) (around a l i h w t0 side er) (around b m j h w t1 side er2)
   unkept-does why k =
       let of = of-car a.told why k.kinds in
       let quiet = quiet-of (IsImported X a.told b.told l) false why of.other in
@@ -302,7 +302,7 @@ module _ (X : List ℕ → List ℕ) (N : List ℕ → ℕ) (a b : Seen) (l m : 
         by (inl e) = absurd cc
         by (inr t) = t.is
 
-    printed : h2 ≡ after h text → Counts false w v → Does X N Import (Ok tt) (around a l i h w t0 side) (around b m j h2 v t1 side)
+    printed : h2 ≡ after h text → Counts false w v → Does X N Import (Ok tt) (around a l i h w t0 side er) (around b m j h2 v t1 side er2)
     printed is counts = record {
       answers = λ world finds input calm. answered world finds.stands (k.roots world.held world.input finds.held (input.0 refl).0 (input.0 refl).1 calm.store);
       lost = λ p es rows held outside named tells heights input calm. over p es held outside (names-kept X N a.told b.told p es k.good head-same named) (k.roots held outside.input tells (input.0 refl).0 (input.0 refl).1 calm.store);
@@ -333,7 +333,7 @@ module _ (X : List ℕ → List ℕ) (N : List ℕ → ℕ) (a b : Seen) (l m : 
         over p es held outside stands (inl e) = absurd cc
         over p es held outside stands (inr t) = inr (record { ends = subst (λ e. EndsBy e (Ok tt) h h2) t.is (refl, is); stands = stands })
 
-    cut : IsCut text refusal.Write h h2 w v → Does X N Import (Err refusal.Write) (around a l i h w t0 side) (around b m j h2 v t1 side)
+    cut : IsCut text refusal.Write h h2 w v → Does X N Import (Err refusal.Write) (around a l i h w t0 side er) (around b m j h2 v t1 side er2)
     cut c = record {
       answers = λ world finds input calm. absurd (not-rose w v (c.counts.rose refl) calm.written.output);
       lost = λ p es rows held outside named tells heights input calm. absurd (not-rose w v (c.counts.rose refl) calm.written.output);
@@ -356,8 +356,8 @@ module _ (X : List ℕ → List ℕ) (N : List ℕ → ℕ) (a b : Seen) (l m : 
     }
 
     -- or the output failed
-    pub kept-does : (r : Result (Unit {0}) Refusal) → Prints text r h h2 w v → Does X N Import r (around a l i h w t0 side) (around b m j h2 v t1 side)
+    pub kept-does : (r : Result (Unit {0}) Refusal) → Prints text r h h2 w v → Does X N Import r (around a l i h w t0 side er) (around b m j h2 v t1 side er2)
     kept-does (Ok done) p = printed p.0 p.1
     kept-does (Err why) c =
         let e = c.write in
-        subst (λ (r : Refusal). Does X N Import (Err r) (around a l i h w t0 side) (around b m j h2 v t1 side)) (sym e) (cut (subst (λ (r : Refusal). IsCut text r h h2 w v) e c))
+        subst (λ (r : Refusal). Does X N Import (Err r) (around a l i h w t0 side er) (around b m j h2 v t1 side er2)) (sym e) (cut (subst (λ (r : Refusal). IsCut text r h h2 w v) e c))

@@ -24,7 +24,7 @@ use Rattle.uf_command.specs.declared.types.Command.TheVariants.{Add}
 use Rattle.uf_command.specs.declared.types.Adding.TheVariants as adding
 use Rattle.uf_command.specs.declared.types.Refusal.{Refusal}
 use Rattle.uf_command.specs.declared.types.Refusal.TheVariants as refusal
-use Rattle.uf_top.specs.Around.{HostSide, around}
+use Rattle.uf_top.specs.Around.{HostSide, SinkSide, around}
 use Rattle.uf_top.specs.Bounds.{command_touches}
 use Rattle.uf_top.specs.Causes.{AddsBy, IsBadIn, IsProfileIn, IsProfileRead, OnlyWants, is_read, or_usual}
 use Rattle.uf_top.specs.Intake.{IsRowOf, ShownIn}
@@ -56,9 +56,9 @@ pub synced-writes : (X : List ℕ → List ℕ) (r : Result (List ℕ) Refusal) 
 synced-writes X (Ok text) a m b saves synced failed = record { between = m; saves = saves; last = synced }
 synced-writes X (Err why) a m b saves synced failed = record { between = m; saves = saves; last = failed }
 
-module _ (X : List ℕ → List ℕ) (hash : IsHash X) (N : List ℕ → ℕ) (a m : Seen) (told : m.told ≡ a.told) (l : streams.Told) (i : ℕ) (h : streams.Told) (w t0 : ℕ) (side : HostSide) where
+module _ (X : List ℕ → List ℕ) (hash : IsHash X) (N : List ℕ → ℕ) (a m : Seen) (told : m.told ≡ a.told) (l : streams.Told) (i : ℕ) (h : streams.Told) (w t0 : ℕ) (side : HostSide) (er er2 : SinkSide) where
   -- the Head isn't read, or not in memory
-  pub head-unread : (only_hash : Bool) (why : Refusal) → IsProfileRead (Err why) a.told → ShownIn {A = Option Profile} X (Err why) a m → Makes X N (Add (adding.Input only_hash)) (Err why) (around a l i h w t0 side) (around m l i h w t0 side)
+  pub head-unread : (only_hash : Bool) (why : Refusal) → IsProfileRead (Err why) a.told → ShownIn {A = Option Profile} X (Err why) a m → Makes X N (Add (adding.Input only_hash)) (Err why) (around a l i h w t0 side er) (around m l i h w t0 side er2)
   head-unread only_hash why read shown = record {
     answers = λ world stands input calm. let s = world.standing in let bytes = world.input in head-refused X hash N s only_hash bytes why a m stands (stands-same X N a.told m.told s told stands) read shown calm.faults calm.clashes;
     lost = λ p es heights held outside named input calm. let bytes = outside.input in
@@ -77,7 +77,7 @@ module _ (X : List ℕ → List ℕ) (hash : IsHash X) (N : List ℕ → ℕ) (a
   }
 
   -- there is none, where one is needed
-  pub no-head : IfSome a.told (λ t. t.notes.head ≡ None) → StaysCalm a m → Makes X N (Add (adding.Input false)) (Err (refusal.Ready ready.NoHead)) (around a l i h w t0 side) (around m l i h w t0 side)
+  pub no-head : IfSome a.told (λ t. t.notes.head ≡ None) → StaysCalm a m → Makes X N (Add (adding.Input false)) (Err (refusal.Ready ready.NoHead)) (around a l i h w t0 side er) (around m l i h w t0 side er2)
   no-head none calm = record {
     answers = λ world stands input calm2. let s = world.standing in let bytes = world.input in head-absent X N s bytes a.told m.told stands (stands-same X N a.told m.told s told stands) none;
     lost = λ p es heights held outside named input calm2. let bytes = outside.input in absurd (names-there X N a.told p es named.names none);
@@ -97,7 +97,7 @@ module _ (X : List ℕ → List ℕ) (hash : IsHash X) (N : List ℕ → ℕ) (a
   module _ (calm : StaysCalm a m) (r : Result (List ℕ) Refusal) (k : streams.Told) (j : ℕ) (counts : Counts (is_read r) i j) where
     -- the input is added by the profile of the Head
     pub is-added : (p : Profile) (b : Seen) (t1 : ℕ) → IfSome a.told (λ t. IsProfileIn (Some p) t.notes.head) → IsRowOf X p b.told r l k → ShownIn X r m b → KeepsGood X m.told b.told
-        → WritesAs X SyncsBlocks (is_ok r) m.told b.told → Makes X N (Add (adding.Input false)) r (around a l i h w t0 side) (around b k j h w t1 side)
+        → WritesAs X SyncsBlocks (is_ok r) m.told b.told → Makes X N (Add (adding.Input false)) r (around a l i h w t0 side er) (around b k j h w t1 side er2)
     is-added p b t1 says row shown kept writes =
         let good = subst (λ t. KeepsGood X t b.told) told kept in
         let written = subst (λ t. WritesAs X SyncsBlocks (is_ok r) t b.told) told writes in
@@ -129,7 +129,7 @@ module _ (X : List ℕ → List ℕ) (hash : IsHash X) (N : List ℕ → ℕ) (a
         }
 
     -- the input's row is made, and nothing is kept
-    pub is-hashed : (found : Option Profile) (p : Profile) → p ≡ or_usual found → IfSome a.told (λ t. IsProfileIn found t.notes.head) → IsRowOf X p None r l k → OnlyWants r → Makes X N (Add (adding.Input true)) r (around a l i h w t0 side) (around m k j h w t0 side)
+    pub is-hashed : (found : Option Profile) (p : Profile) → p ≡ or_usual found → IfSome a.told (λ t. IsProfileIn found t.notes.head) → IsRowOf X p None r l k → OnlyWants r → Makes X N (Add (adding.Input true)) r (around a l i h w t0 side er) (around m k j h w t0 side er2)
     is-hashed found p is says row wants =
         let shown = wants-shown X r a m wants calm in
         record {

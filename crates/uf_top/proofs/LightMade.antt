@@ -1,5 +1,5 @@
 -- How a light proof is made of the tree that the Head names.
-use Rattle.std.proofs.Common.{◌≡◌, ◌≢◌, ◌⊎◌, ℕ, ◌<◌, ◌≤◌, ◌+◌, List, [], ◌++◌, length, Bool, true, false, arith, refl, sym, ap, subst, ◌∙◌, inl, inr, None, Some, Result, Ok, Err}
+use Rattle.std.proofs.Common.{◌≡◌, ◌≢◌, ◌⊎◌, ℕ, ◌<◌, ◌+◌, List, ◌++◌, length, Bool, true, false, arith, refl, sym, ap, subst, ◌∙◌, inl, inr, None, Some, Result, Ok, Err}
 use Rattle.std.specs.Prelude.{IfErr, IsOk, ⊤}
 use Rattle.uf_cid.specs.Blocks.{Held}
 use Rattle.uf_edge.specs.Counts.{Counts, Stood}
@@ -36,7 +36,6 @@ use Rattle.uf_plain.specs.declared.rule.Refused.TheVariants as why
 use Rattle.uf_plain.specs.declared.rule.Rule.{Rule}
 use Rattle.uf_store.specs.Contents.{Told}
 use Rattle.uf_store.specs.Faults.{Rises, Shown, StaysCalm}
-use Rattle.uf_store.specs.Lost.{IsLossOf}
 use Rattle.uf_store.specs.Seen.{Seen}
 use Rattle.uf_store.specs.declared.store.Role.{Role}
 use Rattle.uf_store.specs.declared.store.Role.TheVariants.{Directory, Shard, FileNode, Leaf}
@@ -59,7 +58,7 @@ use Rattle.uf_command.specs.declared.types.Command.TheVariants.{At, Prove}
 use Rattle.uf_command.specs.declared.types.Refusal.{Refusal}
 use Rattle.uf_command.specs.declared.types.Refusal.TheVariants as refusal
 use Rattle.uf_top.specs.Answering.{Answers, DoesReply, DoesWant}
-use Rattle.uf_top.specs.Around.{HostSide, RisesFor, around}
+use Rattle.uf_top.specs.Around.{HostSide, RisesFor, SinkSide, around}
 use Rattle.uf_top.specs.Causes.{IsBadIn, IsReadyBy, RefusesOpening, is_write}
 use Rattle.uf_top.specs.Endings.{EndsBy, FindsAll, PrintsPart, RuleOf}
 use Rattle.uf_top.specs.Light.{EndsLight, IsLightTold, height_found, light_refusal, proof_told}
@@ -72,7 +71,7 @@ use Rattle.uf_top.proofs.Classed.{opening-kinds, tree-counts}
 use Rattle.uf_top.proofs.FileSent.{BySink, ByRule, ByStore, SentKind, Whole, if-err, none-printed, sent-kinds, sent-prints, sent-ready, sent-reads}
 use Rattle.uf_top.proofs.InTree.{not-opened, opening-ready}
 use Rattle.uf_top.proofs.Losing.{names-of, names-same, opening-over}
-use Rattle.uf_top.proofs.Printing.{of-no-host, refused-does, whole-printed}
+use Rattle.uf_top.proofs.Printing.{of-no-host, refused-does}
 use Rattle.uf_top.proofs.Shows.{Shown-opening, bad-of-none, head_of, opening-touched}
 use Rattle.uf_top.proofs.Standings.{stands-same, tells-none}
 use Rattle.uf_top.proofs.Tall.{found-tall}
@@ -286,14 +285,14 @@ held-of : (X : List ℕ → List ℕ) (N : List ℕ → ℕ) (told : Told) (p : 
 held-of X N None p es stands = absurd stands
 held-of X N (Some t) p es stands = stands.blocks_held
 
-module _ (X : List ℕ → List ℕ) (N : List ℕ → ℕ) (absent : Bool) (path : Path) (a m : Seen) (told : m.told ≡ a.told) (l : streams.Told) (i : ℕ) (h : streams.Told) (w t0 t1 : ℕ) (side : HostSide) where
+module _ (X : List ℕ → List ℕ) (N : List ℕ → ℕ) (absent : Bool) (path : Path) (a m : Seen) (told : m.told ≡ a.told) (l : streams.Told) (i : ℕ) (h : streams.Told) (w t0 t1 : ℕ) (side : HostSide) (er er2 : SinkSide) where
   -- ---- the tree isn't opened
 
   pub prove-unopened : (f : MfsFault) (why : Refusal) → RefusesOpening f why → ((s : Standing) → TellsAs X N a.told s → Stood a.faults m.faults → Opens X N m.told s (Err f))
       → ((p : Profile) (es : Entries) → NamesOver X N a.told p es → Stood a.faults m.faults → OpensOver X N a.told p es (Err f))
       → ReadsHead a.told (Err f) → CountsUp (tree_fault {A = Mfs} (Err f)) t0 t1 → ShownOpening X (IsBadInHead X N a.told) {A = Mfs} (Err f) a m
-      → Does X N (Prove absent path) (Err why) (around a l i h w t0 side) (around m l i h w t1 side)
-  prove-unopened f why is opens lost head up cause = refused-does X N (Prove absent path) refl a m l l i i t0 t1 h w side side why makes
+      → Does X N (Prove absent path) (Err why) (around a l i h w t0 side er) (around m l i h w t1 side er2)
+  prove-unopened f why is opens lost head up cause = refused-does X N (Prove absent path) refl a m l l i i t0 t1 h w side side er er2 why makes
     where
       whole : (s : Standing) → Answers X N s (in_tree (prove_reply X N absent path.names) s) (Err why) m.told → Opens X N m.told s (Err f) → FindsAll (status_of why)
       whole s given h = by f why is s h
@@ -306,7 +305,7 @@ module _ (X : List ℕ → List ℕ) (N : List ℕ → ℕ) (absent : Bool) (pat
           by (mfs.Store g) why is BadHead h = subst (λ x. FindsAll (status_of x)) (sym (is ∙ ap refusal.Store h)) (λ e. cc, λ e. cc)
           by (mfs.Store g) why is (Stands p es) h = subst (λ x. FindsAll (status_of x)) (sym (is ∙ ap refusal.Store h)) (λ e. cc, λ e. cc)
 
-      makes : Makes X N (Prove absent path) (Err why) (around a l i h w t0 side) (around m l i h w t1 side)
+      makes : Makes X N (Prove absent path) (Err why) (around a l i h w t0 side er) (around m l i h w t1 side er2)
       makes = record {
         answers = λ world stands input calm. not-opened X N world.standing (prove_reply X N absent path.names) f why m.told is (opens world.standing stands calm.faults) (stands-same X N a.told m.told world.standing told stands);
         lost = λ p es rows held bytes named input calm.
@@ -385,7 +384,7 @@ module _ (X : List ℕ → List ℕ) (N : List ℕ → ℕ) (absent : Bool) (pat
         front-printed X N path.names h h2 (Text p es) (Says p es)
         (front-at p es (opened-over p es named.names (stood-calm a.faults m.faults calm.faults had)) (subst CanRise (sym calm.faults) had))
 
-    pub proves-does : Does X N (Prove absent path) done (around a l i h w t0 side) (around b l i h2 w2 t2 side)
+    pub proves-does : Does X N (Prove absent path) done (around a l i h w t0 side er) (around b l i h2 w2 t2 side er2)
     proves-does = record {
       answers = λ world finds input quiet. of-no-host (ok-answer world.standing finds.stands quiet.store.faults (not-sink w w2 r counts quiet.written.output));
       lost = λ p es rows held outside named tells heights input quiet.

@@ -19,8 +19,8 @@ use Rattle.uf_command.specs.declared.types.Refusal.TheVariants as refusal
 use Rattle.uf_words.specs.Commands.{command_of}
 use Rattle.uf_words.specs.Lines.{line_words}
 use Rattle.uf_words.specs.declared.command.Cmd.{Cmd}
-use Rattle.uf_top.specs.Around.{Around}
-use Rattle.uf_top.specs.Batch.{DoesLine, LineDone, LineGone, LineServed, LinesDone, PrintsCut, PrintsWhole, Said, Scene, ServesLine, SinkSide, ClosesLine}
+use Rattle.uf_top.specs.Around.{Around, Said, SinkSide}
+use Rattle.uf_top.specs.Batch.{ClosesLine, DoesLine, LineDone, LineGone, LinesDone, PrintsCut, PrintsWhole, ServesLine, output_of, LineServed}
 use Rattle.uf_command.specs.Telling.{TellsEnd}
 use Rattle.uf_top.proofs.Runs.{runs-told}
 use Rattle.uf_top.proofs.Serving.{words-spare}
@@ -46,10 +46,10 @@ asks-words line given (inr memory) = subst IsOfWords (sym memory) refl
 
 module _ (X : List ℕ → List ℕ) (N : List ℕ → ℕ) where
   -- what a line asks for is refused
-  pub serves-refused : (line : List ℕ) (why : Refusal) (a : Around) → IsAskedBy (Some (Err why)) (line_in line) → ServesLine X N (line_in line) (Err why) a a
-  serves-refused line why a told = by told
+  pub serves-refused : (line : List ℕ) (why : Refusal) (a : Around) (er2 : SinkSide) → IsAskedBy (Some (Err why)) (line_in line) → ServesLine X N (line_in line) (Err why) a (record a { errors = er2 })
+  serves-refused line why a er2 told = by told
     where
-      by : IsAskedBy (Some (Err why)) (line_in line) → ServesLine X N (line_in line) (Err why) a a
+      by : IsAskedBy (Some (Err why)) (line_in line) → ServesLine X N (line_in line) (Err why) a (record a { errors = er2 })
       by (inl memory) = let e : (line_in line ≡ Some (Err why)) ⊎ (◌≡◌ {A = Result Command Refusal} (Err why) (Err no_memory)) = inr (ap (λ (w : Refusal). Err w) memory) in record {
         asked = Err why;
         asks = e;
@@ -67,34 +67,29 @@ module _ (X : List ℕ → List ℕ) (N : List ℕ → ℕ) where
 
 -- ---- a line
 
-out-of : Around → SinkSide
-out-of m = record { held = m.held; faults = m.writes }
-
-with-out : SinkSide → Around → Around
-with-out out m = record m { held = out.held; writes = out.faults }
-
-module _ (X : List ℕ → List ℕ) (N : List ℕ → ℕ) (line : List ℕ) (done : Result (Unit {0}) Refusal) (a m : Around) (err : SinkSide) (serves : ServesLine X N (line_in line) done a m) where
-  line-done : (err_now : SinkSide) (given : Status) → TellsEnd (Said err err_now) done given → LineDone X N line given (record { around = a; errors = err }) (record { around = m; errors = err_now })
-  line-done err_now given told = record {
-    asked = serves.asked;
-    asks = serves.asks;
-    runs = runs-told (Said err err_now) given X N a m serves.asked done (asks-words line serves.asked serves.asks) serves.serves serves.own serves.kinds told;
+module _ (X : List ℕ → List ℕ) (N : List ℕ → ℕ) (line : List ℕ) (done : Result (Unit {0}) Refusal) (a m : Around) (serves : (er2 : SinkSide) → ServesLine X N (line_in line) done a (record m { errors = er2 })) where
+  line-done : (err_now : SinkSide) (given : Status) → TellsEnd (Said a.errors err_now) done given → LineDone X N line given a (record m { errors = err_now })
+  line-done err_now given told = let s = serves err_now in record {
+    asked = s.asked;
+    asks = s.asks;
+    runs = runs-told given X N a (record m { errors = err_now }) s.asked done (asks-words line s.asked s.asks) s.serves s.own s.kinds told;
   }
 
-  pub closes-on : (out_now err_now : SinkSide) → ClosesLine done None (record { held = m.held; faults = m.writes }) out_now err err_now
-      → DoesLine X N line None (record { around = a; errors = err }) (record { around = record m { held = out_now.held; writes = out_now.faults }; errors = err_now })
+  abbrev now : SinkSide → SinkSide → Around
+  now out_now err_now = record m { held = out_now.held; writes = out_now.faults; errors = err_now }
+
+  closes-on : (out_now err_now : SinkSide) → ClosesLine done None (output_of m) out_now a.errors err_now → DoesLine X N line None a (now out_now err_now)
   closes-on out_now err_now closes = inr (record {
     given = closes.0;
-    printed = record { held = m.held; faults = m.writes };
+    printed = output_of m;
     done = line-done err_now closes.0 closes.1.told;
     goes_on = closes.1.goes_on;
     marked = closes.1.marked;
   })
 
-  pub closes-last : (given : Status) (out_now err_now : SinkSide) → ClosesLine done (Some given) (record { held = m.held; faults = m.writes }) out_now err err_now
-      → DoesLine X N line (Some given) (record { around = a; errors = err }) (record { around = record m { held = out_now.held; writes = out_now.faults }; errors = err_now })
+  closes-last : (given : Status) (out_now err_now : SinkSide) → ClosesLine done (Some given) (output_of m) out_now a.errors err_now → DoesLine X N line (Some given) a (now out_now err_now)
   closes-last given out_now err_now (inl last) = inl (record {
-    printed = record { held = m.held; faults = m.writes };
+    printed = output_of m;
     done = line-done err_now given last.told;
     ends = last.ends;
     unmarked = last.unmarked;
@@ -102,7 +97,7 @@ module _ (X : List ℕ → List ℕ) (N : List ℕ → ℕ) (line : List ℕ) (d
   })
   closes-last given out_now err_now (inr cut) = inr (record {
     was = cut.was;
-    printed = record { held = m.held; faults = m.writes };
+    printed = output_of m;
     between = cut.between;
     done = line-done cut.between cut.was cut.told;
     goes_on = cut.goes_on;
@@ -110,15 +105,13 @@ module _ (X : List ℕ → List ℕ) (N : List ℕ → ℕ) (line : List ℕ) (d
     tells = cut.tells;
   })
 
-  pub closes : (out_now err_now : SinkSide) (given : Option Status) → ClosesLine done given (record { held = m.held; faults = m.writes }) out_now err err_now
-      → DoesLine X N line given (record { around = a; errors = err }) (record { around = record m { held = out_now.held; writes = out_now.faults }; errors = err_now })
+  pub closes : (out_now err_now : SinkSide) (given : Option Status) → ClosesLine done given (output_of m) out_now a.errors err_now → DoesLine X N line given a (now out_now err_now)
   closes out_now err_now None h = closes-on out_now err_now h
   closes out_now err_now (Some given) h = closes-last given out_now err_now h
 
 -- a line without a word
-pub closes-none : (X : List ℕ → List ℕ) (N : List ℕ → ℕ) (line : List ℕ) (a m : Around) (err : SinkSide) → LineServed X N (line_in line) None a m
-    → DoesLine X N line None (record { around = a; errors = err }) (record { around = m; errors = err })
-closes-none X N line a m err served = inl (served.0, λ i. record { around = served.1 i; errors = err })
+pub closes-none : (X : List ℕ → List ℕ) (N : List ℕ → ℕ) (line : List ℕ) (a m : Around) → m.errors ≡ a.errors → LineServed X N (line_in line) None a m → DoesLine X N line None a m
+closes-none X N line a m same served = inl (served.0, served.1 ∙ (λ i. record a { errors = same i }))
 
 -- ---- a mark
 
@@ -129,7 +122,7 @@ marked Failed text held held_now faults faults_now sends counts = inr (record { 
 
 -- ---- lines
 
-pub lines-more : (X : List ℕ → List ℕ) (N : List ℕ → ℕ) (lines : List (List ℕ)) (line : List ℕ) (a b c : Scene) → LinesDone X N lines a b → LineGone X N line b c → LinesDone X N (lines ++ line ∷ []) a c
+pub lines-more : (X : List ℕ → List ℕ) (N : List ℕ → ℕ) (lines : List (List ℕ)) (line : List ℕ) (a b c : Around) → LinesDone X N lines a b → LineGone X N line b c → LinesDone X N (lines ++ line ∷ []) a c
 lines-more X N [] line a b c same gone = (c, subst (λ s. LineGone X N line s c) same gone, refl)
 lines-more X N (first ∷ lines) line a b c done gone = (done.0, done.1, lines-more X N lines line done.0 b c done.2 gone)
 

@@ -32,7 +32,7 @@ use Rattle.uf_command.specs.declared.types.Ask.{Ask}
 use Rattle.uf_command.specs.declared.types.Ask.TheVariants.{Ls, Stat, Edit as Edits}
 use Rattle.uf_command.specs.declared.types.Command.TheVariants.{Init, At}
 use Rattle.uf_command.specs.declared.types.Refusal.{Refusal}
-use Rattle.uf_top.specs.Around.{HostSide, around}
+use Rattle.uf_top.specs.Around.{HostSide, SinkSide, around}
 use Rattle.uf_top.specs.Causes.{HeadStays, IsBadIn, RefusesOpening}
 use Rattle.uf_edits.specs.Edits.{IsBadAsked}
 use Rattle.uf_top.specs.Losing.{AnswersOver, ask_needs}
@@ -59,11 +59,11 @@ no-head-yet (Some t) h = h
 module _ (X : List ℕ → List ℕ) (N : List ℕ → ℕ) where
   -- ---- at a path
 
-  module _ (ask : Ask) (path : Path) (a m : Seen) (told : m.told ≡ a.told) (left : streams.Told) (reads : ℕ) (h : streams.Told) (w t0 t1 : ℕ) (side : HostSide) (opens_by : t1 ≤ t0 + 1) where
+  module _ (ask : Ask) (path : Path) (a m : Seen) (told : m.told ≡ a.told) (left : streams.Told) (reads : ℕ) (h : streams.Told) (w t0 t1 : ℕ) (side : HostSide) (er er2 : SinkSide) (opens_by : t1 ≤ t0 + 1) where
     -- the tree isn't opened
     pub at-refused : (f : MfsFault) (why : Refusal) → RefusesOpening f why → ((s : Standing) → TellsAs X N a.told s → Stood a.faults m.faults → Opens X N m.told s (Err f))
         → ((p : Profile) (es : Entries) → NamesOver X N a.told p es → Stood a.faults m.faults → OpensOver X N a.told p es (Err f))
-        → ReadsHead a.told (Err f) → CountsUp (tree_fault {A = Mfs} (Err f)) t0 t1 → ShownOpening X (IsBadInHead X N a.told) {A = Mfs} (Err f) a m → Makes X N (At ask path) (Err why) (around a left reads h w t0 side) (around m left reads h w t1 side)
+        → ReadsHead a.told (Err f) → CountsUp (tree_fault {A = Mfs} (Err f)) t0 t1 → ShownOpening X (IsBadInHead X N a.told) {A = Mfs} (Err f) a m → Makes X N (At ask path) (Err why) (around a left reads h w t0 side er) (around m left reads h w t1 side er2)
     at-refused f why is opens lost head up cause = record {
       answers = λ world stands input calm. let s = world.standing in let bytes = world.input in not-opened X N s (tree_reply X N ask path.names) f why m.told is (opens s stands calm.faults) (stands-same X N a.told m.told s told stands);
       lost = λ p es heights held bytes named input calm.
@@ -86,7 +86,7 @@ module _ (X : List ℕ → List ℕ) (N : List ℕ → ℕ) where
     -- the tree is opened, and what is asked of it is done
     pub at-opened : (mfs : Mfs) (r : Result (List ℕ) Refusal) (b : Seen) (t2 : ℕ) → ((s : Standing) → TellsAs X N a.told s → Stood a.faults m.faults → Opens X N m.told s (Ok mfs))
         → ((p : Profile) (es : Entries) → NamesOver X N a.told p es → Stood a.faults m.faults → OpensOver X N a.told p es (Ok mfs))
-        → ReadsHead a.told (Ok mfs) → CountsUp None t0 t1 → StaysCalm a m → WorksAt X N mfs ask path r m b t1 t2 → Makes X N (At ask path) r (around a left reads h w t0 side) (around b left reads h w t2 side)
+        → ReadsHead a.told (Ok mfs) → CountsUp None t0 t1 → StaysCalm a m → WorksAt X N mfs ask path r m b t1 t2 → Makes X N (At ask path) r (around a left reads h w t0 side er) (around b left reads h w t2 side er2)
     at-opened mfs r b t2 opens lost head up calm works =
         let rises = shown-rises X (IsBadAsked X N mfs.profile b.told mfs.root.cid) (refusal_fault r) m b works.cause in
         let kinds = opened-of r works.kinds in
@@ -132,11 +132,11 @@ module _ (X : List ℕ → List ℕ) (N : List ℕ → ℕ) where
 
   -- ---- `init`
 
-  module _ (p : Profile) (a b : Seen) (good : KeepsGood X a.told b.told) (left : streams.Told) (reads : ℕ) (h : streams.Told) (w t0 t1 : ℕ) (side : HostSide) where
+  module _ (p : Profile) (a b : Seen) (good : KeepsGood X a.told b.told) (left : streams.Told) (reads : ℕ) (h : streams.Told) (w t0 t1 : ℕ) (side : HostSide) (er er2 : SinkSide) where
     -- the store isn't made ready
     pub init-refused : (f : MfsFault) (why : Refusal) → RefusesOpening f why
         → IfSome a.told (λ t. Stood a.faults b.faults → Stood a.clashes b.clashes → Inits X N b.told p t.notes.head (Err f))
-        → FindsHead a.told (Err f) → SavesThen X LeavesHead a.told b.told → IsOfMaking f → CountsUp (tree_fault {A = Mfs} (Err f)) t0 t1 → ShownOpening X NoneIsBad {A = Mfs} (Err f) a b → Makes X N (Init p) (Err why) (around a left reads h w t0 side) (around b left reads h w t1 side)
+        → FindsHead a.told (Err f) → SavesThen X LeavesHead a.told b.told → IsOfMaking f → CountsUp (tree_fault {A = Mfs} (Err f)) t0 t1 → ShownOpening X NoneIsBad {A = Mfs} (Err f) a b → Makes X N (Init p) (Err why) (around a left reads h w t0 side er) (around b left reads h w t1 side er2)
     init-refused f why is answer finds leaves making up cause =
         let shown = Shown-opening Mfs X NoneIsBad NoneIsBad (λ role bytes bad. bad) f why a b is cause in
         let kinds = init-kinds f why is making in
@@ -164,7 +164,7 @@ module _ (X : List ℕ → List ℕ) (N : List ℕ → ℕ) where
     -- the store is made ready
     pub is-ready : (mfs : Mfs) (text : List ℕ) → text ≡ []
         → IfSome a.told (λ t. Stood a.faults b.faults → Stood a.clashes b.clashes → Inits X N b.told p t.notes.head (Ok mfs)) → FindsHead a.told (Ok mfs)
-        → SavesThen X (Commits mfs.profile mfs.root.cid) a.told b.told → StaysCalm a b → Makes X N (Init p) (Ok text) (around a left reads h w t0 side) (around b left reads h w t1 side)
+        → SavesThen X (Commits mfs.profile mfs.root.cid) a.told b.told → StaysCalm a b → Makes X N (Init p) (Ok text) (around a left reads h w t0 side er) (around b left reads h w t1 side er2)
     is-ready mfs text nothing answer finds writes calm = record {
       answers = λ world stands input calm2. let s = world.standing in let bytes = world.input in inits-ok X N (Stood a.faults b.faults) (Stood a.clashes b.clashes) s p a.told mfs text b.told calm2.faults calm2.clashes nothing stands answer;
       lost = λ q es heights held bytes named input calm2. absurd (not-inited X N (Stood a.faults b.faults) (Stood a.clashes b.clashes) a.told b.told p q es mfs calm2.faults calm2.clashes named.names answer);

@@ -57,7 +57,7 @@ use Rattle.uf_command.specs.declared.types.PinAsk.TheVariants as pins
 use Rattle.uf_command.specs.declared.types.Refusal.{Refusal}
 use Rattle.uf_command.specs.declared.types.Refusal.TheVariants as refusal
 use Rattle.uf_top.specs.Answering.{DoesAnswer}
-use Rattle.uf_top.specs.Around.{Around, HostSide, RisesFor, around}
+use Rattle.uf_top.specs.Around.{Around, HostSide, RisesFor, SinkSide, around}
 use Rattle.uf_top.specs.Bounds.{command_touches}
 use Rattle.uf_top.specs.Causes.{IsBadIn, IsReadyBy, is_read}
 use Rattle.uf_top.specs.Endings.{EndsBy, IsPinText, IsTextOf, PrintsPart}
@@ -422,7 +422,7 @@ ask-kinds X A pins.List (pin.Store (fault.BadBlock c role)) a b h s = absurd h
 ask-kinds X A pins.List (pin.Store (fault.Clash c x y)) a b h s = absurd h
 ask-kinds X A pins.List (pin.Store fault.Memory) a b h s = refl
 
-module _ (X : List ℕ → List ℕ) (N : List ℕ → ℕ) (ask : PinAsk) (a b : Seen) (l : streams.Told) (i : ℕ) (h : streams.Told) (w t0 t1 : ℕ) (side : HostSide) where
+module _ (X : List ℕ → List ℕ) (N : List ℕ → ℕ) (ask : PinAsk) (a b : Seen) (l : streams.Told) (i : ℕ) (h : streams.Told) (w t0 t1 : ℕ) (side : HostSide) (er er2 : SinkSide) where
   -- what every fault of a call on pins has
   record IsFault (f : PinFault) : Type 0 where
     other : refusal_kind (pin_refusal f) ≢ OfWrite
@@ -448,7 +448,7 @@ module _ (X : List ℕ → List ℕ) (N : List ℕ → ℕ) (ask : PinAsk) (a b 
 
   -- it is refused, and nothing is printed
   pub pin-refused : (A : Type 0) (f : PinFault) → IsOfAsk ask f → SaysOf ask (Err (pin_refusal f)) a.told → Shown X NoneIsBad (pin_fault {A = A} (Err f)) a b → WritesAs X (pin_writes ask) false a.told b.told → UnreadBy (Err (pin_refusal f)) a.told
-      → Touches X N ask t0 t1 → Does X N (Pin ask) (Err (pin_refusal f)) (around a l i h w t0 side) (around b l i h w t1 side)
+      → Touches X N ask t0 t1 → Does X N (Pin ask) (Err (pin_refusal f)) (around a l i h w t0 side er) (around b l i h w t1 side er2)
   pin-refused A f may says cause writes unread touch =
       let is = fault-of A f (ask-kinds X A ask f a b may cause) cause in
       let quiet = quiet-of (IsTextOf X N a.told b.told side.told (Pin ask) l) false (pin_refusal f) is.other in
@@ -498,7 +498,7 @@ module _ (X : List ℕ → List ℕ) (N : List ℕ → ℕ) (ask : PinAsk) (a b 
 
   -- it is done, and its text printed
   pub pin-done : (text : List ℕ) (h2 : streams.Told) (v : ℕ) → SaysOf ask (Ok text) a.told → StaysCalm a b → WritesAs X (pin_writes ask) true a.told b.told → PinsLeft ask status.Ok a.told b.told → IsPinText a.told ask text
-      → h2 ≡ after h text → Counts false w v → Touches X N ask t0 t1 → Does X N (Pin ask) (Ok tt) (around a l i h w t0 side) (around b l i h2 v t1 side)
+      → h2 ≡ after h text → Counts false w v → Touches X N ask t0 t1 → Does X N (Pin ask) (Ok tt) (around a l i h w t0 side er) (around b l i h2 v t1 side er2)
   pin-done text h2 v says calm writes left text_is sent counts touch = record {
     answers = λ world finds input quiet. inr (
       record {
@@ -548,37 +548,37 @@ told-each A (Some t) f = f t refl
 after-none : (held : streams.Told) → held ≡ after held []
 after-none held = after-nothing held
 
-module _ (X : List ℕ → List ℕ) (N : List ℕ → ℕ) (a b : Seen) (l : streams.Told) (i : ℕ) (h : streams.Told) (w t0 t1 : ℕ) (side : HostSide) where
+module _ (X : List ℕ → List ℕ) (N : List ℕ → ℕ) (a b : Seen) (l : streams.Told) (i : ℕ) (h : streams.Told) (w t0 t1 : ℕ) (side : HostSide) (er er2 : SinkSide) where
   pub adds : (cid : Cid) (r : Result (Unit {0}) PinFault) → ((t : Contents) → a.told ≡ Some t → AddsPin t most_blocks cid r b.told) → WritesMore r a.told b.told → Shown X NoneIsBad (pin_fault r) a b
-      → Does X N (Pin (pins.Add cid)) (refused-as r) (around a l i h w t0 side) (around b l i h w t1 side)
+      → Does X N (Pin (pins.Add cid)) (refused-as r) (around a l i h w t0 side er) (around b l i h w t1 side er2)
   adds cid (Ok done) added writes cause =
-      pin-done X N (pins.Add cid) a b l i h w t0 t1 side [] h w (λ t is listed read. added-said t listed read cid b.told (added t is)) cause writes (told-each (λ t. PinsBelow t most_blocks cid b.told) a.told added) refl (after-none h)
+      pin-done X N (pins.Add cid) a b l i h w t0 t1 side er er2 [] h w (λ t is listed read. added-said t listed read cid b.told (added t is)) cause writes (told-each (λ t. PinsBelow t most_blocks cid b.told) a.told added) refl (after-none h)
       (counts-still w) (λ p es bytes rows. tt)
   adds cid (Err f) added writes cause =
-      pin-refused X N (pins.Add cid) a b l i h w t0 t1 side (Unit {0}) f tt (λ t is listed read. added-unsaid t listed read cid b.told f (added t is)) cause writes
+      pin-refused X N (pins.Add cid) a b l i h w t0 t1 side er er2 (Unit {0}) f tt (λ t is listed read. added-unsaid t listed read cid b.told f (added t is)) cause writes
       (unread-by f a.told (λ t is bad. (subst (λ g. AddsPin t most_blocks cid (Err g) b.told) bad (added t is)).0)) (λ p es bytes rows. tt)
 
-module _ (X : List ℕ → List ℕ) (N : List ℕ → ℕ) (a b : Seen) (l : streams.Told) (i : ℕ) (h : streams.Told) (w t0 : ℕ) (side : HostSide) where
+module _ (X : List ℕ → List ℕ) (N : List ℕ → ℕ) (a b : Seen) (l : streams.Told) (i : ℕ) (h : streams.Told) (w t0 : ℕ) (side : HostSide) (er er2 : SinkSide) where
   pub removes : (cid : Cid) (r : Result (Unit {0}) PinFault) → IfErr r IsOfRemoval → ((t : Contents) → a.told ≡ Some t → RemovesPin t cid r b.told) → WritesLess r a.told b.told → Shown X NoneIsBad (pin_fault r) a b
-      → Does X N (Pin (pins.Remove cid)) (refused-as r) (around a l i h w t0 side) (around b l i h w t0 side)
+      → Does X N (Pin (pins.Remove cid)) (refused-as r) (around a l i h w t0 side er) (around b l i h w t0 side er2)
   removes cid (Ok done) may removed writes cause =
-      pin-done X N (pins.Remove cid) a b l i h w t0 t0 side [] h w (λ t is listed read. removed-said t listed read cid b.told (removed t is)) cause writes (told-each (λ t. Unpins t cid b.told) a.told removed) refl (after-none h)
+      pin-done X N (pins.Remove cid) a b l i h w t0 t0 side er er2 [] h w (λ t is listed read. removed-said t listed read cid b.told (removed t is)) cause writes (told-each (λ t. Unpins t cid b.told) a.told removed) refl (after-none h)
       (counts-still w) (λ p es bytes rows. omega arith)
   removes cid (Err f) may removed writes cause =
-      pin-refused X N (pins.Remove cid) a b l i h w t0 t0 side (Unit {0}) f may (λ t is listed read. removed-unsaid t listed read cid b.told f (removed t is)) cause writes
+      pin-refused X N (pins.Remove cid) a b l i h w t0 t0 side er er2 (Unit {0}) f may (λ t is listed read. removed-unsaid t listed read cid b.told f (removed t is)) cause writes
       (unread-by f a.told (λ t is bad. (subst (λ g. RemovesPin t cid (Err g) b.told) bad (removed t is)).0)) (λ p es bytes rows. omega arith)
 
   -- the list isn't read, or there was no memory for its text
   pub unlisted : (f : PinFault) → IsOfNote f → ((t : Contents) → a.told ≡ Some t → ListsPins t.notes.pins (Err f)) → Shown X NoneIsBad (pin_fault {A = List Cid} (Err f)) a b → b.told ≡ a.told
-      → Does X N (Pin pins.List) (Err (pin_refusal f)) (around a l i h w t0 side) (around b l i h w t0 side)
+      → Does X N (Pin pins.List) (Err (pin_refusal f)) (around a l i h w t0 side er) (around b l i h w t0 side er2)
   unlisted f may listed cause same =
-      pin-refused X N pins.List a b l i h w t0 t0 side (List Cid) f may (λ t is listed' read. list-unsaid t listed' read f (listed t is)) cause same
+      pin-refused X N pins.List a b l i h w t0 t0 side er er2 (List Cid) f may (λ t is listed' read. list-unsaid t listed' read f (listed t is)) cause same
       (unread-by f a.told (λ t is bad. subst (λ g. ListsPins t.notes.pins (Err g)) bad (listed t is))) (λ p es bytes rows. omega arith)
 
   module _ (x : List Cid) (lists : (t : Contents) → a.told ≡ Some t → ListsPins t.notes.pins (Ok x)) (calm : StaysCalm a b) (same : b.told ≡ a.told) where
-    pub no-text : Does X N (Pin pins.List) (Err no_memory) (around a l i h w t0 side) (around b l i h w t0 side)
+    pub no-text : Does X N (Pin pins.List) (Err no_memory) (around a l i h w t0 side er) (around b l i h w t0 side er2)
     no-text =
-        pin-refused X N pins.List a b l i h w t0 t0 side (List Cid) (pin.Store fault.Memory) tt (λ t is listed read. inl tt) (calm-memory a b calm) same tt (λ p es bytes rows. omega arith)
+        pin-refused X N pins.List a b l i h w t0 t0 side er er2 (List Cid) (pin.Store fault.Memory) tt (λ t is listed read. inl tt) (calm-memory a b calm) same tt (λ p es bytes rows. omega arith)
 
     abbrev text : List ℕ
     text = flat_map cid_line x
@@ -590,7 +590,7 @@ module _ (X : List ℕ → List ℕ) (N : List ℕ → ℕ) (a b : Seen) (l : st
     says t is listed read = list-said t listed read x (lists t is)
 
     module _ (h2 : streams.Told) (v : ℕ) where
-      cut : IsCut text refusal.Write h h2 w v → Does X N (Pin pins.List) (Err refusal.Write) (around a l i h w t0 side) (around b l i h2 v t0 side)
+      cut : IsCut text refusal.Write h h2 w v → Does X N (Pin pins.List) (Err refusal.Write) (around a l i h w t0 side er) (around b l i h2 v t0 side er2)
       cut c = record {
         answers = λ world finds input quiet. absurd (not-rose w v (c.counts.rose refl) quiet.written.output);
         lost = λ p es rows held outside named tells heights input quiet. absurd (not-rose w v (c.counts.rose refl) quiet.written.output);
@@ -612,11 +612,11 @@ module _ (X : List ℕ → List ℕ) (N : List ℕ → ℕ) (a b : Seen) (l : st
         leaves = record { good = KeepsGood-same X a.told b.told same; head = ap head_in same; writes = same; idle = λ p es bytes stands quiet is. absurd cc };
       }
 
-      pub lists-done : (r : Result (Unit {0}) Refusal) → Prints text r h h2 w v → Does X N (Pin pins.List) r (around a l i h w t0 side) (around b l i h2 v t0 side)
-      lists-done (Ok done) p = pin-done X N pins.List a b l i h w t0 t0 side text h2 v says calm same (ap pins_in same) text-is p.0 p.1 (λ p es bytes rows. omega arith)
+      pub lists-done : (r : Result (Unit {0}) Refusal) → Prints text r h h2 w v → Does X N (Pin pins.List) r (around a l i h w t0 side er) (around b l i h2 v t0 side er2)
+      lists-done (Ok done) p = pin-done X N pins.List a b l i h w t0 t0 side er er2 text h2 v says calm same (ap pins_in same) text-is p.0 p.1 (λ p es bytes rows. omega arith)
       lists-done (Err why) c =
           let e = c.write in
-          subst (λ (r : Refusal). Does X N (Pin pins.List) (Err r) (around a l i h w t0 side) (around b l i h2 v t0 side)) (sym e) (cut (subst (λ (r : Refusal). IsCut text r h h2 w v) e c))
+          subst (λ (r : Refusal). Does X N (Pin pins.List) (Err r) (around a l i h w t0 side er) (around b l i h2 v t0 side er2)) (sym e) (cut (subst (λ (r : Refusal). IsCut text r h h2 w v) e c))
 
 -- what was asked, and what was answered, under other names
 pub as-asked : (X : List ℕ → List ℕ) (N : List ℕ → ℕ) (a b : Around) (given ask : PinAsk) → given ≡ ask → (r s : Result (Unit {0}) Refusal) → r ≡ s → Does X N (Pin ask) s a b → Does X N (Pin given) r a b

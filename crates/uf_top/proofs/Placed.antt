@@ -59,7 +59,7 @@ use Rattle.uf_command.specs.declared.types.HostRule.TheVariants as rules
 use Rattle.uf_command.specs.declared.types.Refusal.{Refusal}
 use Rattle.uf_command.specs.declared.types.Refusal.TheVariants as refusal
 use Rattle.uf_top.specs.Answering.{Answers}
-use Rattle.uf_top.specs.Around.{HostSide, OnlyReadsHost, around}
+use Rattle.uf_top.specs.Around.{HostSide, OnlyReadsHost, SinkSide, around}
 use Rattle.uf_top.specs.Causes.{AddsBy, AreLeft, HeadStays, IsBadIn, IsReady, IsReadyBy, IsReason, IsReasonInTree, IsRow, is_read}
 use Rattle.uf_top.specs.Endings.{FindsAll}
 use Rattle.uf_top.specs.Grafts.{FollowsOr, IsLostBy}
@@ -663,10 +663,10 @@ module _ (X : List ℕ → List ℕ) (N : List ℕ → ℕ) where
     held = h.plan.held;
   }
 
-  pub of-input : (dest : Path) (l m : streams.Told) (i j : ℕ) (held : streams.Told) (w : ℕ) (side : HostSide) (done : Result (List ℕ) Refusal) (a d : Seen) (t0 t2 : ℕ)
+  pub of-input : (dest : Path) (l m : streams.Told) (i j : ℕ) (held : streams.Told) (w : ℕ) (side : HostSide) (er er2 : SinkSide) (done : Result (List ℕ) Refusal) (a d : Seen) (t0 t2 : ℕ)
       → Ended X N dest None (λ p. SaysInput p l) (input_row X N) done a d t0 t2 → Counts (is_read done) i j
-      → Makes X N (Add (adding.InputTo dest)) done (around a l i held w t0 side) (around d m j held w t2 side)
-  of-input dest l m i j held w side done a d t0 t2 e counts = record {
+      → Makes X N (Add (adding.InputTo dest)) done (around a l i held w t0 side er) (around d m j held w t2 side er2)
+  of-input dest l m i j held w side er er2 done a d t0 t2 e counts = record {
     answers = λ world stands input calm.
         answers-of X N dest None (λ p. SaysInput p l) (input_row X N) done a d t0 t2 (λ p. input_tree p world.input) e calm (not-read (is_read done) i j counts (input.0 refl).1)
         (λ p g said. input-said p l world.input g (input.0 refl).0 said) world.standing stands;
@@ -686,10 +686,10 @@ module _ (X : List ℕ → List ℕ) (N : List ℕ → ℕ) where
     leaves = record { good = e.good; head = head-after done a.told d.told e.head; writes = e.writes; idle = λ p es bytes names calm same. absurd cc };
   }
 
-  pub of-host : (recursive : Bool) (path : List ℕ) (dest : Path) (l : streams.Told) (i : ℕ) (held : streams.Told) (w : ℕ) (side side2 : HostSide) (done : Result (List ℕ) Refusal) (a d : Seen) (t0 t2 : ℕ)
+  pub of-host : (recursive : Bool) (path : List ℕ) (dest : Path) (l : streams.Told) (i : ℕ) (held : streams.Told) (w : ℕ) (side side2 : HostSide) (er er2 : SinkSide) (done : Result (List ℕ) Refusal) (a d : Seen) (t0 t2 : ℕ)
       → Ended X N dest (Some path) (λ p. SaysHost X N p side.told recursive path) (λ p. host_text X N p path) done a d t0 t2 → OnlyReadsHost (is_read done) side side2
-      → Makes X N (Add (adding.HostTo recursive path dest)) done (around a l i held w t0 side) (around d l i held w t2 side2)
-  of-host recursive path dest l i held w side side2 done a d t0 t2 e only = record {
+      → Makes X N (Add (adding.HostTo recursive path dest)) done (around a l i held w t0 side er) (around d l i held w t2 side2 er2)
+  of-host recursive path dest l i held w side side2 er er2 done a d t0 t2 e only = record {
     answers = λ world stands input calm.
         answers-of X N dest (Some path) (λ p. SaysHost X N p side.told recursive path) (λ p. host_text X N p path) done a d t0 t2 (λ p. host_tree path (tree_on_host X N p world.host recursive path)) e calm
         (not-read (is_read done) side.reads side2.reads only.reads (input.1 refl).1)

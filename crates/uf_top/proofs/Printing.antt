@@ -32,7 +32,7 @@ use Rattle.uf_command.specs.declared.types.Refusal.{Refusal}
 use Rattle.uf_command.specs.declared.types.Refusal.TheVariants as refusal
 use Rattle.uf_store.specs.declared.store.StoreFault.TheVariants as fault
 use Rattle.uf_top.specs.Answering.{Answers, DoesAnswer, LeavesNext}
-use Rattle.uf_top.specs.Around.{CountsCanRise, HasOutside, HostSide, RisesFor, TakesHost, UsesHost, around}
+use Rattle.uf_top.specs.Around.{CountsCanRise, HasOutside, HostSide, RisesFor, SinkSide, TakesHost, UsesHost, around}
 use Rattle.uf_top.specs.Causes.{HeadStays, KeepsHead, is_read, is_write}
 use Rattle.uf_top.specs.Endings.{AddsFor, EndsBy, IsTextOf, PrintsAt, PrintsElse, PrintsPart, RuleOf}
 use Rattle.uf_command.specs.Telling.{IsCut, Prints}
@@ -428,7 +428,7 @@ module _ (X : List ℕ → List ℕ) (N : List ℕ → ℕ) where
   rules command needs told now l m (refusal.Store (fault.Clash cid first second)) h adds is = absurd cc
   rules command needs told now l m (refusal.Store fault.Memory) h adds is = absurd cc
 
-  module _ (command : Command) (alone : natures.reads_tree_alone command ≡ true) (a b : Seen) (l m : streams.Told) (i j t0 t1 : ℕ) (h : streams.Told) (w : ℕ) (side side2 : HostSide) where
+  module _ (command : Command) (alone : natures.reads_tree_alone command ≡ true) (a b : Seen) (l m : streams.Told) (i j t0 t1 : ℕ) (h : streams.Told) (w : ℕ) (side side2 : HostSide) (er er2 : SinkSide) where
     needs : needs_standing command ≡ true
     needs = alone-needs command alone
 
@@ -451,7 +451,7 @@ module _ (X : List ℕ → List ℕ) (N : List ℕ → ℕ) where
     stands-out told s stands = subst (λ n. StandsIf X N n told s) (sym needs) stands
 
     -- a command that is refused before anything is printed
-    pub refused-does : (why : Refusal) → Makes X N command (Err why) (around a l i h w t0 side) (around b m j h w t1 side2) → Does X N command (Err why) (around a l i h w t0 side) (around b m j h w t1 side2)
+    pub refused-does : (why : Refusal) → Makes X N command (Err why) (around a l i h w t0 side er) (around b m j h w t1 side2 er2) → Does X N command (Err why) (around a l i h w t0 side er) (around b m j h w t1 side2 er2)
     refused-does why mk =
         let quiet = quiet-of (IsTextOf X N a.told b.told side.told command l) (natures.streams command) why (λ e. no-write command (subst (λ k. may_meet (kinds_of command) k ≡ true) e mk.kinds)) in
         record {
@@ -500,9 +500,9 @@ module _ (X : List ℕ → List ℕ) (N : List ℕ → ℕ) where
             inl (record { fault = x.fault; ends_are = ap (λ (r : Refusal). Err r) e; loss = x.loss; stands = x.stands })
         over p es (inr x) = inr (record { ends = subst (λ e. EndsBy e (Err why) h h) x.ends_are (refl, refl); stands = x.stands })
 
-    module _ (text : List ℕ) (mk : Makes X N command (Ok text) (around a l i h w t0 side) (around b m j h w t1 side2)) where
+    module _ (text : List ℕ) (mk : Makes X N command (Ok text) (around a l i h w t0 side er) (around b m j h w t1 side2 er2)) where
       -- the text is the reply's, whatever blocks are lost
-      text-given : (s : Standing) (held : Lookup) (outside : Outside) → NamesAs X N a.told b.told s → HasOutside (Ok command) outside (around a l i h w t0 side) (around b m j h w t1 side2) → CountsCanRise a
+      text-given : (s : Standing) (held : Lookup) (outside : Outside) → NamesAs X N a.told b.told s → HasOutside (Ok command) outside (around a l i h w t0 side er) (around b m j h w t1 side2 er2) → CountsCanRise a
           → Ok text ≡ (reply X N command (world_of s held outside)).ends
       text-given NoHead held outside names input room = by (mk.answers (world_of NoHead held outside) names input (calm-of a b room mk.cause))
         where
@@ -521,13 +521,13 @@ module _ (X : List ℕ → List ℕ) (N : List ℕ → ℕ) where
           by (inl x) = absurd (let e = x.ends_are in cc)
           by (inr x) = x.ends_are
 
-      text-is : (world : World) → FindsOver X N a.told b.told (Ok command) world → HasOutside (Ok command) (outside_of world) (around a l i h w t0 side) (around b m j h w t1 side2) → CountsCanRise a → Ok text ≡ (reply X N command world).ends
+      text-is : (world : World) → FindsOver X N a.told b.told (Ok command) world → HasOutside (Ok command) (outside_of world) (around a l i h w t0 side er) (around b m j h w t1 side2 er2) → CountsCanRise a → Ok text ≡ (reply X N command world).ends
       text-is world finds input room =
           text-given world.standing world.held (outside_of world) (subst (λ n. NamesIf X N a.told b.told n world.standing) needs finds.names) input room
 
       module _ (h2 : streams.Told) (v : ℕ) where
         -- its text is printed
-        pub printed-does : h2 ≡ after h text → Counts false w v → Does X N command (Ok tt) (around a l i h w t0 side) (around b m j h2 v t1 side2)
+        pub printed-does : h2 ≡ after h text → Counts false w v → Does X N command (Ok tt) (around a l i h w t0 side er) (around b m j h2 v t1 side2 er2)
         printed-does is counts = record {
           answers = λ world finds input calm. answered world (λ uses. (input.1 uses).0) (mk.answers world (stands-in a.told world.standing finds.stands) input calm.store);
           lost = λ p es rows held bytes named tells heights input calm. over p es (mk.lost p es rows held bytes named input calm.store);
@@ -569,7 +569,7 @@ module _ (X : List ℕ → List ℕ) (N : List ℕ → ℕ) where
         left-next world (inl x) = absurd (let e = x.ends_are in cc)
         left-next world (inr x) = record { stands = x.stands; blocks = x.held }
 
-        cut-does : IsCut text refusal.Write h h2 w v → Does X N command (Err refusal.Write) (around a l i h w t0 side) (around b m j h2 v t1 side2)
+        cut-does : IsCut text refusal.Write h h2 w v → Does X N command (Err refusal.Write) (around a l i h w t0 side er) (around b m j h2 v t1 side2 er2)
         cut-does c =
             let rose = c.counts.rose refl in
             record {
@@ -594,19 +594,19 @@ module _ (X : List ℕ → List ℕ) (N : List ℕ → ℕ) where
             }
 
         -- or the output failed
-        pub prints-does : (r : Result (Unit {0}) Refusal) → Prints text r h h2 w v → Does X N command r (around a l i h w t0 side) (around b m j h2 v t1 side2)
+        pub prints-does : (r : Result (Unit {0}) Refusal) → Prints text r h h2 w v → Does X N command r (around a l i h w t0 side er) (around b m j h2 v t1 side2 er2)
         prints-does (Ok done) p = printed-does p.0 p.1
         prints-does (Err why) c =
             let e = c.write in
-            subst (λ (r : Refusal). Does X N command (Err r) (around a l i h w t0 side) (around b m j h2 v t1 side2)) (sym e) (cut-does (subst (λ (r : Refusal). IsCut text r h h2 w v) e c))
+            subst (λ (r : Refusal). Does X N command (Err r) (around a l i h w t0 side er) (around b m j h2 v t1 side2 er2)) (sym e) (cut-does (subst (λ (r : Refusal). IsCut text r h h2 w v) e c))
 
   -- so it is where what was made is printed, or else refused
   pub said-does : (command : Command) (alone : natures.reads_tree_alone command ≡ true) (a b : Seen) (l m : streams.Told) (i j t0 t1 : ℕ) (h : streams.Told) (w : ℕ) (side side2 : HostSide) (text : Result (List ℕ) Refusal)
-      → Makes X N command text (around a l i h w t0 side) (around b m j h w t1 side2) → (h2 : streams.Told) (v : ℕ) (r : Result (Unit {0}) Refusal)
-      → SaysText text r h h2 w v → Does X N command r (around a l i h w t0 side) (around b m j h2 v t1 side2)
-  said-does command alone a b l m i j t0 t1 h w side side2 (Ok text) mk h2 v r p = prints-does command alone a b l m i j t0 t1 h w side side2 text mk h2 v r p
-  said-does command alone a b l m i j t0 t1 h w side side2 (Err why) mk h2 v r p =
-      subst (λ (r : Result (Unit {0}) Refusal). Does X N command r (around a l i h w t0 side) (around b m j h2 v t1 side2)) (sym p.0)
-      (subst (λ (held : streams.Told). Does X N command (Err why) (around a l i h w t0 side) (around b m j held v t1 side2)) (sym p.1)
-      (subst (λ (writes : ℕ). Does X N command (Err why) (around a l i h w t0 side) (around b m j h writes t1 side2)) (sym p.2)
-      (refused-does command alone a b l m i j t0 t1 h w side side2 why mk)))
+      → ((er er2 : SinkSide) → Makes X N command text (around a l i h w t0 side er) (around b m j h w t1 side2 er2)) → (h2 : streams.Told) (v : ℕ) (r : Result (Unit {0}) Refusal)
+      → SaysText text r h h2 w v → (er er2 : SinkSide) → Does X N command r (around a l i h w t0 side er) (around b m j h2 v t1 side2 er2)
+  said-does command alone a b l m i j t0 t1 h w side side2 (Ok text) mk h2 v r p er er2 = prints-does command alone a b l m i j t0 t1 h w side side2 er er2 text (mk er er2) h2 v r p
+  said-does command alone a b l m i j t0 t1 h w side side2 (Err why) mk h2 v r p er er2 =
+      subst (λ (r : Result (Unit {0}) Refusal). Does X N command r (around a l i h w t0 side er) (around b m j h2 v t1 side2 er2)) (sym p.0)
+      (subst (λ (held : streams.Told). Does X N command (Err why) (around a l i h w t0 side er) (around b m j held v t1 side2 er2)) (sym p.1)
+      (subst (λ (writes : ℕ). Does X N command (Err why) (around a l i h w t0 side er) (around b m j h writes t1 side2 er2)) (sym p.2)
+      (refused-does command alone a b l m i j t0 t1 h w side side2 er er2 why (mk er er2))))

@@ -1,5 +1,5 @@
 -- What is so of all words, whether they are refused or are a command.
-use Rattle.std.proofs.Common.{◌≡◌, ◌⊎◌, ℕ, ◌+◌, ◌<◌, ◌≤◌, List, [], Bool, true, false, arith, refl, sym, ap, subst, ◌∙◌, inl, inr, Result, Ok, Err}
+use Rattle.std.proofs.Common.{◌≡◌, ◌⊎◌, ℕ, ◌+◌, ◌<◌, ◌≤◌, List, [], true, false, arith, sym, ap, subst, ◌∙◌, inl, inr, Result, Ok, Err}
 use Rattle.std.specs.Prelude.{IfSome}
 use Rattle.uf_cid.specs.Blocks.{Held, Lookup}
 use Rattle.uf_mfs.specs.Reading.{AreHeights}
@@ -22,7 +22,7 @@ use Rattle.uf_command.specs.declared.types.Refusal.{Refusal}
 use Rattle.uf_command.specs.declared.types.Refusal.TheVariants as refusal
 use Rattle.uf_top.specs.Answering.{LeavesNext}
 use Rattle.uf_top.specs.Around.{Around, CountsCanRise, HasOutside, RoseAt, StaysQuiet}
-use Rattle.uf_top.specs.Batch.{LineDone, Said, Scene}
+use Rattle.uf_top.specs.Batch.{LineDone}
 use Rattle.uf_top.specs.Bounds.{words_touch}
 use Rattle.uf_top.specs.Caused.{StatusShows}
 use Rattle.uf_top.specs.Endings.{EndsAs, IsRefusedBy, PrintsPart, may_move}
@@ -63,14 +63,14 @@ abbrev pub words_need : (List ℕ → List ℕ) → (List ℕ → ℕ) → (ℕ 
 words_need X N rows (Ok command) p es = command_needs X N rows command p es
 words_need X N rows (Err why) p es = []
 
-module _ (Says : List ℕ → Type 0) (X : List ℕ → List ℕ) (N : List ℕ → ℕ) where
+module _ (X : List ℕ → List ℕ) (N : List ℕ → ℕ) where
   pub record Ran (asked : Result Command Refusal) (given : Status) (a b : Around) : Type 0 where
     pub replies : (w : World) → FindsWorld X N asked a.store.told w → HasOutside asked (outside_of w) a b → StaysQuiet asked given a b
-        → EndsAs Says X N asked w given a.held b.held b.store.told b.host.told
+        → EndsAs X N asked w given a b
     pub unprinted : (w : World) → of_command prints_after false asked ≡ true → given ≡ status.WriteFault → FindsWorld X N asked a.store.told w → HasOutside asked (outside_of w) a b → Calm a.store b.store
         → LeavesNext X N (reply_to X N asked w) b.store.told
     pub lost : (p : Profile) (es : Entries) (rows : ℕ → ℕ) (held : Lookup) (outside : Outside) → StaysNamed X N a.store.told b.store.told p es → TellsBlocks a.store.told held → AreHeights p rows → HasOutside asked outside a b
-        → StaysQuiet asked given a b → EndsOver X N a.store.told b.store.told p es (words_need X N rows asked p es) Says (reply_to X N asked (in_world p es held outside)) given a.held b.held
+        → StaysQuiet asked given a b → EndsOver X N p es (words_need X N rows asked p es) (reply_to X N asked (in_world p es held outside)) given a b
     pub written : given ≡ status.WriteFault → RoseAt (of_command writes_host false asked) a.writes b.writes a.host.writes b.host.writes
     pub faults : TellsFaults given a b
     pub prefix : (w : World) → FindsOver X N a.store.told b.store.told asked w → HasOutside asked (outside_of w) a b → CountsCanRise a.store → PrintsPart (reply_to X N asked w).ends a.held b.held
@@ -83,12 +83,12 @@ module _ (Says : List ℕ → Type 0) (X : List ℕ → List ℕ) (N : List ℕ 
         → IfSome (words_touch X N rows bytes asked p es) (λ most. b.touches ≤ a.touches + most)
 
   -- a command
-  command-ran : (command : Command) (given : Status) (a b : Around) → RunsCommand Says X N command given a b → Ran (Ok command) given a b
+  command-ran : (command : Command) (given : Status) (a b : Around) → RunsCommand X N command given a b → Ran (Ok command) given a b
   command-ran command given a b r = record {
     replies = r.replies;
     unprinted = r.unprinted;
     lost = r.lost;
-    written = λ is. subst (StatusShows Says X N a b command) is r.answered.cause;
+    written = λ is. subst (StatusShows X N a b command) is r.answered.cause;
     faults = r.faults;
     prefix = r.printed.prefix;
     writes = r.left.writes;
@@ -100,7 +100,7 @@ module _ (Says : List ℕ → Type 0) (X : List ℕ → List ℕ) (N : List ℕ 
   }
 
   -- refused words
-  module _ (why : Refusal) (given : Status) (a b : Around) (r : RefusesWords Says why given a b) where
+  module _ (why : Refusal) (given : Status) (a b : Around) (r : RefusesWords why given a b) where
     no-fault : TellsFaults given a b
     no-fault = record {
       store = λ more. (let e = ap (λ (x : Around). x.store.faults) r.same in absurd (omega (arith, e, more)));
@@ -118,31 +118,31 @@ module _ (Says : List ℕ → Type 0) (X : List ℕ → List ℕ) (N : List ℕ 
         writes (inl more) = (let e = ap (λ (x : Around). x.writes) r.same in omega (arith, e, more))
         writes (inr more) = (let e = ap (λ (x : Around). x.host.writes) r.same in omega (arith, e, more))
 
-    replies-refused : (w : World) → FindsWorld X N (Err why) a.store.told w → EndsAs Says X N (Err why) w given a.held b.held b.store.told b.host.told
+    replies-refused : (w : World) → FindsWorld X N (Err why) a.store.told w → EndsAs X N (Err why) w given a b
     replies-refused w finds = by r.refused
       where
         stands : TellsAs X N b.store.told w.standing
         stands = subst (λ (x : Around). TellsAs X N x.store.told w.standing) (sym r.same) finds.stands
 
-        by : IsRefusedBy Says why given → EndsAs Says X N (Err why) w given a.held b.held b.store.told b.host.told
+        by : IsRefusedBy why given a b → EndsAs X N (Err why) w given a b
         by (inl memory) = inl (record { status_is = memory.0; says = memory.1; stands = stands })
         by (inr told) = inr (record { status_is = told.0; says = told.1; printed = ap (λ (x : Around). x.held) r.same; stands = stands; blocks = tells-none X N b.store.told w.standing stands }, tt)
 
     lost-refused : (p : Profile) (es : Entries) (outside : Outside) (held : Lookup) → StaysNamed X N a.store.told b.store.told p es
-        → EndsOver X N a.store.told b.store.told p es [] Says (reply_to X N (Err why) (in_world p es held outside)) given a.held b.held
+        → EndsOver X N p es [] (reply_to X N (Err why) (in_world p es held outside)) given a b
     lost-refused p es outside held named = by r.refused
       where
         now : NamesAfter X N a.store.told b.store.told (blocks X N p (Dir es)) p es
         now = names-same X N a.store.told b.store.told p es (ap (λ (x : Around). x.store.told) r.same) named
 
-        by : IsRefusedBy Says why given → EndsOver X N a.store.told b.store.told p es [] Says (reply_to X N (Err why) (in_world p es held outside)) given a.held b.held
+        by : IsRefusedBy why given a b → EndsOver X N p es [] (reply_to X N (Err why) (in_world p es held outside)) given a b
         by (inl memory) = inl (record { fault = fault.Memory; loss = tt; status_is = memory.0; says = memory.1; stands = now })
         by (inr told) = inr (record { status_is = told.0; says = told.1; printed = ap (λ (x : Around). x.held) r.same; stands = now })
 
     written-refused : given ≡ status.WriteFault → ⊥
     written-refused is = by r.refused
       where
-        by : IsRefusedBy Says why given → ⊥
+        by : IsRefusedBy why given a b → ⊥
         by (inl memory) = (let e : status.Memory ≡ status.WriteFault = sym memory.0 ∙ is in cc)
         by (inr told) = unwritten why r.words (sym told.0 ∙ is)
 
@@ -162,10 +162,10 @@ module _ (Says : List ℕ → Type 0) (X : List ℕ → List ℕ) (N : List ℕ 
       touches = λ p es bytes rows named input heights calm. (let e = ap (λ (x : Around). x.touches) r.same in omega (arith, e));
     }
 
-  pub ran : (asked : Result Command Refusal) (given : Status) (a b : Around) → Runs Says X N asked given a b → Ran asked given a b
+  pub ran : (asked : Result Command Refusal) (given : Status) (a b : Around) → Runs X N asked given a b → Ran asked given a b
   ran (Ok command) given a b r = command-ran command given a b r
   ran (Err why) given a b r = words-ran why given a b r
 
 -- a line of a batch
-pub line-ran : {X : List ℕ → List ℕ} {N : List ℕ → ℕ} {line : List ℕ} {given : Status} {a b : Scene} → (done : LineDone X N line given a b) → Ran (Said a.errors b.errors) X N done.asked given a.around b.around
-line-ran {X} {N} {line} {given} {a} {b} done = ran (Said a.errors b.errors) X N done.asked given a.around b.around done.runs
+pub line-ran : {X : List ℕ → List ℕ} {N : List ℕ → ℕ} {line : List ℕ} {given : Status} {a b : Around} → (done : LineDone X N line given a b) → Ran X N done.asked given a b
+line-ran {X} {N} {line} {given} {a} {b} done = ran X N done.asked given a b done.runs

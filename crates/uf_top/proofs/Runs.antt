@@ -7,7 +7,7 @@ use Rattle.uf_command.specs.Natures.{IsOfCommand, NoStore, may_end, own_store}
 use Rattle.uf_command.specs.declared.status.Status.{Status}
 use Rattle.uf_command.specs.declared.types.Command.{Command}
 use Rattle.uf_command.specs.declared.types.Refusal.{Refusal}
-use Rattle.uf_top.specs.Around.{Around}
+use Rattle.uf_top.specs.Around.{Around, Said}
 use Rattle.uf_top.specs.Cars.{ByOwnStore}
 use Rattle.uf_command.specs.Telling.{TellsEnd}
 use Rattle.uf_top.specs.Running.{Runs, RunsCommand}
@@ -16,53 +16,53 @@ use Rattle.uf_top.proofs.Counted.{counted-of}
 use Rattle.uf_top.proofs.Losses.{lost-told, touches-told}
 use Rattle.uf_top.proofs.Telling.{blamed-told, clashes-told, faults-told, gets-told, good-told, head-told, host-told, idle-told, is-refused, kinds-told, pins-told, prefix-told, prints-told, read-told, replies-told, says-plain, shows, synced-told, told-same, unprinted-told, whole-told, write-told, writes-told}
 
-module _ (Says : List ℕ → Type 0) (given : Status) (X : List ℕ → List ℕ) (N : List ℕ → ℕ) (a b : Around) where
-  command-told : (command : Command) (done : Result (Unit {0}) Refusal) → Does X N command done a b → IfErr done (ByOwnStore X (own_store command) a.left a.store b.store) → IsOf (may_end command) done → TellsEnd Says done given
-      → RunsCommand Says X N command given a b
+module _ (given : Status) (X : List ℕ → List ℕ) (N : List ℕ → ℕ) (a b : Around) where
+  command-told : (command : Command) (done : Result (Unit {0}) Refusal) → Does X N command done a b → IfErr done (ByOwnStore X (own_store command) a.left a.store b.store) → IsOf (may_end command) done → TellsEnd (Said a.errors b.errors) done given
+      → RunsCommand X N command given a b
   command-told command done s sections kinds t = record {
-    replies = λ w finds outside quiet. replies-told Says given X N a b command done s t w finds outside quiet.store quiet.written quiet.own;
-    whole = λ standing needs stands calm. whole-told Says given X N a b command done s t standing needs stands calm;
-    unprinted = λ w after is finds outside calm. unprinted-told Says given X N a b command done s t w after is finds outside calm;
+    replies = λ w finds outside quiet. replies-told a b given X N command done s t w finds outside quiet.store quiet.written quiet.own;
+    whole = λ standing needs stands calm. whole-told a b given X N command done s t standing needs stands calm;
+    unprinted = λ w after is finds outside calm. unprinted-told a b given X N command done s t w after is finds outside calm;
     lost = λ p es rows held outside named tells heights has quiet.
-        lost-told Says given X N a b p es command done s t rows held outside named tells heights has quiet.store quiet.written quiet.own;
+        lost-told a b given X N p es command done s t rows held outside named tells heights has quiet.store quiet.written quiet.own;
     answered = record {
-      kinds = kinds-told Says given command done kinds t;
-      lines = says-plain Says given done t;
-      cause = shows Says given X N a b command done s sections kinds t;
+      kinds = kinds-told a b given command done kinds t;
+      lines = says-plain a b given done t;
+      cause = shows a b given X N command done s sections kinds t;
     };
     faults = record {
-      store = λ more. faults-told Says given X N a b command done s t more;
-      clashes = λ more. clashes-told Says given X N a b command done s t more;
-      reads = λ more. read-told Says given X N a b command done s t more;
-      writes = λ more. write-told Says given X N a b command done s t more;
+      store = λ more. faults-told a b given X N command done s t more;
+      clashes = λ more. clashes-told a b given X N command done s t more;
+      reads = λ more. read-told a b given X N command done s t more;
+      writes = λ more. write-told a b given X N command done s t more;
       counted = counted-of X N a b command done s;
     };
     printed = record {
-      prefix = λ w finds outside room. prefix-told Says given X N a b command done s w finds outside room;
-      text = prints-told Says given X N a b command done s t;
-      synced = λ is. synced-told Says given X N a b command done s t is;
+      prefix = λ w finds outside room. prefix-told a b given X N command done s w finds outside room;
+      text = prints-told a b given X N command done s t;
+      synced = λ is. synced-told a b given X N command done s t is;
     };
     left = record {
-      writes = writes-told Says given X N a b command done s t;
-      good = good-told Says given X N a b command done s;
-      head = λ unmoved. head-told Says given X N a b command done s t unmoved;
-      told = λ is. told-same Says given X N a b command done s is;
-      idle = λ p es bytes names input faults is. idle-told Says given X N a b command done s p es bytes names input faults is;
-      host = λ is. host-told Says given X N a b command done s is;
-      gets = gets-told Says given X N a b command done s t;
-      pins = pins-told Says given X N a b command done s t;
+      writes = writes-told a b given X N command done s t;
+      good = good-told a b given X N command done s;
+      head = λ unmoved. head-told a b given X N command done s t unmoved;
+      told = λ is. told-same a b given X N command done s is;
+      idle = λ p es bytes names input faults is. idle-told a b given X N command done s p es bytes names input faults is;
+      host = λ is. host-told a b given X N command done s is;
+      gets = gets-told a b given X N command done s t;
+      pins = pins-told a b given X N command done s t;
     };
     touched = record {
-      most = λ p es bytes rows named input heights calm. touches-told Says given X N a b p es bytes rows command done s named input heights calm;
-      bad = λ is. blamed-told Says given X N a b command done s t is;
+      most = λ p es bytes rows named input heights calm. touches-told a b given X N p es bytes rows command done s named input heights calm;
+      bad = λ is. blamed-told a b given X N command done s t is;
     };
   }
 
   pub runs-told : (asked : Result Command Refusal) (done : Result (Unit {0}) Refusal) → IsOfWords asked → Serves X N asked done a b
-      → IfErr done (ByOwnStore X (of_command own_store NoStore asked) a.left a.store b.store) → IsOfCommand asked done → TellsEnd Says done given → Runs Says X N asked given a b
+      → IfErr done (ByOwnStore X (of_command own_store NoStore asked) a.left a.store b.store) → IsOfCommand asked done → TellsEnd (Said a.errors b.errors) done given → Runs X N asked given a b
   runs-told (Ok command) done of-words s sections kinds t = command-told command done s sections kinds t
   runs-told (Err why) done of-words s sections kinds t = record {
     words = of-words;
-    refused = is-refused Says given done why t s.refused;
+    refused = is-refused a b given done why t s.refused;
     same = s.same;
   }

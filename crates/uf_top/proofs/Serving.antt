@@ -27,7 +27,7 @@ use Rattle.uf_command.specs.declared.types.PinAsk.TheVariants as pins
 use Rattle.uf_command.specs.declared.types.Refusal.{Refusal}
 use Rattle.uf_command.specs.declared.types.Refusal.TheVariants as refusal
 use Rattle.uf_command.specs.declared.status.Status.TheVariants as status
-use Rattle.uf_top.specs.Around.{Around, RisesFor, TakesHost, is_input_read, is_output_write}
+use Rattle.uf_top.specs.Around.{Around, RisesFor, SinkSide, TakesHost, is_input_read, is_output_write}
 use Rattle.uf_top.specs.Getting.{GetsFor, LeavesAt}
 use Rattle.uf_top.specs.Pins.{PinsFor}
 use Rattle.uf_top.specs.Bounds.{command_touches}
@@ -126,7 +126,10 @@ nothing-pinned (Pin (pins.Add cid)) told = (refl, tt)
 nothing-pinned (Pin (pins.Remove cid)) told = (refl, tt)
 nothing-pinned (Pin pins.List) told = (refl, tt)
 
-module _ (X : List ℕ → List ℕ) (N : List ℕ → ℕ) (a : Around) where
+module _ (X : List ℕ → List ℕ) (N : List ℕ → ℕ) (a : Around) (er2 : SinkSide) where
+  abbrev b : Around
+  b = record a { errors = er2 }
+
   still-reads : (command : Command) → Counts (is_input_read {A = Unit {0}} command (Err no_memory)) a.reads a.reads
   still-reads command = by (uses_host command)
     where
@@ -149,7 +152,7 @@ module _ (X : List ℕ → List ℕ) (N : List ℕ → ℕ) (a : Around) where
       by true = rises-still a.writes
       by false = rises-still a.writes
 
-  wanting : (command : Command) → Does X N command (Err no_memory) a a
+  wanting : (command : Command) → Does X N command (Err no_memory) a b
   wanting command = record {
     answers = λ world finds input calm. inl (record { ends_are = refl; stands = finds.stands });
     lost = λ p es rows held bytes named tells heights input calm.
@@ -173,8 +176,8 @@ module _ (X : List ℕ → List ℕ) (N : List ℕ → ℕ) (a : Around) where
   }
 
   -- words that are refused
-  pub words-serve : (asked : Result Command Refusal) (why : Refusal) → IsAsked (Err why) asked → Serves X N asked (Err why) a a
-  words-serve (Ok command) why (inl memory) = subst (λ w. Does X N command (Err w) a a) (sym memory) (wanting command)
+  pub words-serve : (asked : Result Command Refusal) (why : Refusal) → IsAsked (Err why) asked → Serves X N asked (Err why) a b
+  words-serve (Ok command) why (inl memory) = subst (λ w. Does X N command (Err w) a b) (sym memory) (wanting command)
   words-serve (Ok command) why (inr same) = absurd cc
   words-serve (Err asked) why (inl memory) = record { refused = inr (ap (λ (w : Refusal). Err w) memory); same = refl }
   words-serve (Err asked) why (inr same) = (let e : asked ≡ why = cc in record { refused = inl (ap (λ (w : Refusal). Err w) (sym e)); same = refl })

@@ -21,7 +21,7 @@ use Rattle.uf_store.specs.declared.store.Write.TheVariants.{Saved, Synced, Noted
 use Rattle.uf_store.proofs.Causes.{StaysCalm-refl, calm-memory}
 use Rattle.uf_store.proofs.Keeping.{KeepsGood-refl}
 use Rattle.uf_store.proofs.Writing.{Wrote-refl}
-use Rattle.uf_top.specs.Around.{Around}
+use Rattle.uf_top.specs.Around.{Around, Said}
 use Rattle.uf_top.specs.Talking.{RunsPull, RunsServe}
 use Rattle.uf_top.specs.Working.{IsIdle}
 use Rattle.uf_top.proofs.Shows.{counts-still}
@@ -48,11 +48,11 @@ no-bytes (Some held) = ap Some (sym (append-nil held))
 pub no-front : (text : List ℕ) (out : Told) → AppendsPrefix text out out
 no-front text out = record { count = 0; fits = omega arith; appended = no-bytes out }
 
-module _ (Says : List ℕ → Type 0) (X : List ℕ → List ℕ) (N : List ℕ → ℕ) (given : Status) (done : Result (Unit {0}) Refusal) (a b : Around) (idle : IsIdle X N no_memory done a b) (t : TellsEnd Says done given) where
-  pub pull-wants : (cid : Cid) → RunsPull Says X N cid given a b
-  pull-wants cid = subst (λ now. RunsPull Says X N cid given a now) (sym idle.same) (record {
+module _ (X : List ℕ → List ℕ) (N : List ℕ → ℕ) (given : Status) (done : Result (Unit {0}) Refusal) (a b : Around) (idle : IsIdle X N no_memory done a b) (t : TellsEnd (Said a.errors b.errors) done given) where
+  pub pull-wants : (cid : Cid) → RunsPull X N cid given a b
+  pull-wants cid = subst (λ now. RunsPull X N cid given a now) (sym idle.same) (record {
     done = Err (pull.Store fault.Memory);
-    tells = wants Says given done idle.refused t;
+    tells = wants (Said a.errors b.errors) given done idle.refused t;
     pulls = λ c bytes told left. record { kept = record { count = 0; few = omega arith; kept = inl told }; written = no-front _ a.held };
     wants = λ c u bytes told left now. tt;
     some = ([], no-bytes a.held);
@@ -67,10 +67,10 @@ module _ (Says : List ℕ → Type 0) (X : List ℕ → List ℕ) (N : List ℕ 
     host = refl;
   })
 
-  pub serve-wants : RunsServe Says X N given a b
-  serve-wants = subst (λ now. RunsServe Says X N given a now) (sym idle.same) (record {
+  pub serve-wants : RunsServe X N given a b
+  serve-wants = subst (λ now. RunsServe X N given a now) (sym idle.same) (record {
     done = Err (serve.Store fault.Memory);
-    tells = wants Says given done idle.refused t;
+    tells = wants (Said a.errors b.errors) given done idle.refused t;
     frames = λ c bytes told left. no-front _ a.held;
     some = ([], no-bytes a.held);
     cause = calm-memory a.store a.store (StaysCalm-refl a.store);

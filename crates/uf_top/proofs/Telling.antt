@@ -1,6 +1,6 @@
 -- From how a command was done to what is told of it.
-use Rattle.std.proofs.Common.{◌≡◌, ◌≢◌, ◌⊎◌, ℕ, ◌<◌, List, [], true, false, arith, refl, sym, ap, subst, ◌∙◌, inl, inr, Some, None, Bool, Result, Ok, Err}
-use Rattle.std.specs.Prelude.{◌&&◌, ◌||◌, not, IfErr, IfSome, ⊤}
+use Rattle.std.proofs.Common.{◌≡◌, ◌⊎◌, ℕ, ◌<◌, List, [], true, false, arith, refl, sym, ap, subst, ◌∙◌, inl, inr, Some, None, Bool, Result, Ok, Err}
+use Rattle.std.specs.Prelude.{◌&&◌, ◌||◌, not, IfErr, IfSome}
 use Rattle.uf_cid.specs.declared.cid.Cid.{Cid}
 use Rattle.uf_edge.specs.Counts.{Counts, Stood}
 use Rattle.uf_edge.specs.Host.{HostTold}
@@ -14,17 +14,16 @@ use Rattle.uf_store.specs.Keeping.{KeepsGood}
 use Rattle.uf_store.specs.Seen.{Seen}
 use Rattle.uf_store.specs.declared.store.Role.{Role}
 use Rattle.uf_store.specs.declared.store.StoreFault.TheVariants as fault
-use Rattle.uf_store.proofs.Keeping.{KeepsGood-same}
 use Rattle.uf_tree.specs.Standing.{Standing}
 use Rattle.uf_tree.specs.Tree.{Entries}
 use Rattle.uf_tree.specs.declared.profile.Profile.{Profile}
-use Rattle.uf_command.specs.Commands.{HasInput, IsOfWords, is_idle, of_command}
+use Rattle.uf_command.specs.Commands.{HasInput, is_idle}
 use Rattle.uf_command.specs.Natures.{command_writes, needs_standing, only_reads, own_store, reads_tree_alone, uses_host, writes_host, OwnStore, NoStore, OfCarSections, OfTree, prints_after}
 use Rattle.uf_command.specs.Natures.{streams as flows}
-use Rattle.uf_command.specs.Kinds.{IsOf, OfCar, OfClash, OfHost, OfLongInput, OfMissing, OfPath, OfPins, OfReady, OfRule, OfUsage, OfWrite, fault_behind, may_close, refusal_kind, word_kinds}
-use Rattle.uf_command.specs.Natures.{IsOfCommand, kinds_of, may_end, may_give}
+use Rattle.uf_command.specs.Kinds.{IsOf, OfCar, OfClash, OfHost, OfLongInput, OfMissing, OfPath, OfPins, OfReady, OfRule, OfUsage, fault_behind, may_close, refusal_kind}
+use Rattle.uf_command.specs.Natures.{kinds_of, may_end, may_give}
 use Rattle.uf_command.specs.Lines.{line_of, said}
-use Rattle.uf_top.specs.Reply.{World, outside_of, reply, reply_to}
+use Rattle.uf_top.specs.Reply.{World, outside_of, reply}
 use Rattle.uf_command.specs.Statuses.{ended, no_memory, plain_line, status_of}
 use Rattle.uf_command.specs.declared.status.Status.{Status}
 use Rattle.uf_command.specs.declared.status.Status.TheVariants as status
@@ -37,7 +36,7 @@ use Rattle.uf_command.specs.declared.types.PinAsk.TheVariants as pins
 use Rattle.uf_command.specs.declared.types.Refusal.{Refusal}
 use Rattle.uf_command.specs.declared.types.Refusal.TheVariants as refusal
 use Rattle.uf_top.specs.Answering.{DoesAnswer, LeavesNext}
-use Rattle.uf_top.specs.Around.{AllWritten, Around, CountsCanRise, HasOutside, HostSide, MetNone, RisesFor, RoseAt, TakesHost}
+use Rattle.uf_top.specs.Around.{AllWritten, Around, CountsCanRise, HasOutside, HostSide, MetNone, RisesFor, RoseAt, Said, TakesHost}
 use Rattle.uf_top.specs.Cars.{ByOwnStore, IsClashing, IsMissing, IsOwnClash, LacksSection}
 use Rattle.uf_top.specs.Caused.{StatusShows}
 use Rattle.uf_top.specs.Causes.{IsBadIn, IsSynced, is_read, is_write, KeepsHead}
@@ -45,12 +44,12 @@ use Rattle.uf_top.specs.Endings.{EndsAs, EndsBy, FindsAll, IsRefusedBy, IsSynced
 use Rattle.uf_command.specs.Telling.{TellsEnd, TellsWhy, has_details}
 use Rattle.uf_top.specs.Getting.{GetsFor, LeavesAt}
 use Rattle.uf_top.specs.Naming.{FindsOver, FindsWorld, StandsIf}
-use Rattle.uf_top.specs.Pins.{PinsAfter, PinsFor, PinsLeft, pins_in}
-use Rattle.uf_top.specs.Shapes.{SyncsAfter, WritesAs, WritesFor, is_done}
+use Rattle.uf_top.specs.Pins.{PinsAfter, PinsFor, PinsLeft}
+use Rattle.uf_top.specs.Shapes.{SyncsAfter, WritesAs, is_done}
 use Rattle.uf_top.specs.Working.{Does}
 use Rattle.uf_top.proofs.Pins.{pins-after}
 use Rattle.uf_top.proofs.Shows.{blaming-of}
-use Rattle.uf_top.proofs.Standings.{stands-kept, tells-none}
+use Rattle.uf_top.proofs.Standings.{stands-kept}
 
 -- ---- which kinds no command has
 
@@ -344,24 +343,24 @@ module _ (hash : List ℕ → List ℕ) (P : Role → List ℕ → Type 0) (a b 
   clash-of (refusal.Store fault.Memory) h more = inr refl
 
 -- a command that may say that the note of pins isn't read is one on pins
-pins-unread : (Says : List ℕ → Type 0) (command : Command) (a b : Told) → may_close (kinds_of command) OfPins ≡ true → PinsFor command (Err refusal.BadPins) a b → PinsUnread Says command a
-pins-unread Says (Init profile) a b h p = absurd cc
-pins-unread Says (Add (adding.Input only_hash)) a b h p = absurd cc
-pins-unread Says (Add (adding.InputTo dest)) a b h p = absurd cc
-pins-unread Says (Add (adding.HostTo recursive path dest)) a b h p = absurd cc
-pins-unread Says (Add (adding.Host recursive only_hash path)) a b h p = absurd cc
-pins-unread Says (WriteInput how path) a b h p = absurd cc
-pins-unread Says (At ask path) a b h p = absurd cc
-pins-unread Says (Read offset count path) a b h p = absurd cc
-pins-unread Says (Prove absent path) a b h p = absurd cc
-pins-unread Says (Cat path) a b h p = absurd cc
-pins-unread Says (Get path host_path) a b h p = absurd cc
-pins-unread Says (Export cid) a b h p = absurd cc
-pins-unread Says Import a b h p = absurd cc
-pins-unread Says (Same cid) a b h p = absurd cc
-pins-unread Says (Adopt source dest) a b h p = absurd cc
-pins-unread Says (Gen n seed) a b h p = absurd cc
-pins-unread Says (Pin ask) a b h p = p.1
+pins-unread : (command : Command) (a b : Told) → may_close (kinds_of command) OfPins ≡ true → PinsFor command (Err refusal.BadPins) a b → PinsUnread command a
+pins-unread (Init profile) a b h p = absurd cc
+pins-unread (Add (adding.Input only_hash)) a b h p = absurd cc
+pins-unread (Add (adding.InputTo dest)) a b h p = absurd cc
+pins-unread (Add (adding.HostTo recursive path dest)) a b h p = absurd cc
+pins-unread (Add (adding.Host recursive only_hash path)) a b h p = absurd cc
+pins-unread (WriteInput how path) a b h p = absurd cc
+pins-unread (At ask path) a b h p = absurd cc
+pins-unread (Read offset count path) a b h p = absurd cc
+pins-unread (Prove absent path) a b h p = absurd cc
+pins-unread (Cat path) a b h p = absurd cc
+pins-unread (Get path host_path) a b h p = absurd cc
+pins-unread (Export cid) a b h p = absurd cc
+pins-unread Import a b h p = absurd cc
+pins-unread (Same cid) a b h p = absurd cc
+pins-unread (Adopt source dest) a b h p = absurd cc
+pins-unread (Gen n seed) a b h p = absurd cc
+pins-unread (Pin ask) a b h p = p.1
 
 -- what a detailed status leaves of the note of pins, want of memory leaves too
 detailed-left-pins : (ask : PinAsk) (a b : Told) (s : Status) → has_details s ≡ true → PinsLeft ask s a b → PinsLeft ask status.Memory a b
@@ -473,8 +472,11 @@ pub detailed-kept : (why : Refusal) (after : Bool) (a b : Told) → has_details 
 detailed-kept why true a b detailed h = h (λ is. let e : has_details status.WriteFault ≡ true = subst (λ g. has_details g ≡ true) is detailed in cc)
 detailed-kept why false a b detailed h = h
 
-module _ (Says : List ℕ → Type 0) where
-  why-plain : (why : Refusal) (given : Status) → TellsWhy Says why given → SaysPlain Says given
+module _ (a b : Around) where
+  abbrev Says : List ℕ → Type 0
+  Says line = Said a.errors b.errors line
+
+  why-plain : (why : Refusal) (given : Status) → TellsWhy Says why given → SaysPlain given a b
   why-plain why given (inl t) = λ e. subst (λ s. Says (plain_line s)) (sym t.0) (subst Says (sym (plain-of why (ap has_details (sym t.0) ∙ e))) t.1)
   why-plain why given (inr t) = λ e. subst (λ s. Says (plain_line s)) (sym t.1) t.2
 
@@ -483,7 +485,7 @@ module _ (Says : List ℕ → Type 0) where
   memory-told given (inl t) = t
   memory-told given (inr t) = absurd (let e = t.0 in cc)
 
-  refused-told : (why : Refusal) (given : Status) → TellsWhy Says why given → IsRefusedBy Says why given
+  refused-told : (why : Refusal) (given : Status) → TellsWhy Says why given → IsRefusedBy why given a b
   refused-told why given (inl t) = inr t
   refused-told why given (inr t) = inl (t.1, t.2)
 
@@ -498,11 +500,11 @@ module _ (Says : List ℕ → Type 0) where
   ok-ends (Err why) given held now t h = absurd (let k = h.0 in cc)
 
   module _ (given : Status) where
-    pub says-plain : (done : Result (Unit {0}) Refusal) → TellsEnd Says done given → SaysPlain Says given
+    pub says-plain : (done : Result (Unit {0}) Refusal) → TellsEnd Says done given → SaysPlain given a b
     says-plain (Ok done) t = λ e. subst (λ s. Says (plain_line s)) (sym t.0) t.1
     says-plain (Err why) t = why-plain why given t
 
-    pub is-refused : (done : Result (Unit {0}) Refusal) (why : Refusal) → TellsEnd Says done given → (done ≡ Err why) ⊎ (done ≡ Err no_memory) → IsRefusedBy Says why given
+    pub is-refused : (done : Result (Unit {0}) Refusal) (why : Refusal) → TellsEnd Says done given → (done ≡ Err why) ⊎ (done ≡ Err no_memory) → IsRefusedBy why given a b
     is-refused done why f (inl is) = refused-told why given (subst (λ d. TellsEnd Says d given) is f)
     is-refused done why f (inr is) = inl (memory-told given (subst (λ d. TellsEnd Says d given) is f))
 
@@ -516,7 +518,7 @@ module _ (Says : List ℕ → Type 0) where
     kinds-told command (Ok done) of t = subst (λ g. may_give command g ≡ true) (sym t.0) refl
     kinds-told command (Err why) of t = by-why (λ g. may_give command g ≡ true) why given t (λ says. gives command why of) refl
 
-    module _ (X : List ℕ → List ℕ) (N : List ℕ → ℕ) (a b : Around) where
+    module _ (X : List ℕ → List ℕ) (N : List ℕ → ℕ) where
       -- a cause in the store, or in one of the command's own
       missing : (own : OwnStore) (cid : Cid) → ShowsMissing cid a.store b.store → IsMissing X own a.left cid a.store b.store
       missing NoStore cid h = h
@@ -538,7 +540,7 @@ module _ (Says : List ℕ → Type 0) where
       clashing OfCarSections cid first second h = inr h
       clashing OfTree cid first second h = h
 
-      does-show : (command : Command) (why : Refusal) → Does X N command (Err why) a b → may_end command (refusal_kind why) ≡ true → ByOwnStore X (own_store command) a.left a.store b.store why → Says (line_of why) → StatusShows Says X N a b command (status_of why)
+      does-show : (command : Command) (why : Refusal) → Does X N command (Err why) a b → may_end command (refusal_kind why) ≡ true → ByOwnStore X (own_store command) a.left a.store b.store why → Says (line_of why) → StatusShows X N a b command (status_of why)
       does-show command (refusal.Rule rule) h of sections says = (refusal.Rule rule, refl, says, h.rule refl)
       does-show command (refusal.Dag rule) h of sections says = (refusal.Dag rule, refl, says, h.rule refl)
       does-show command (refusal.Car number place) h of sections says = (refusal.Car number place, refl, says, h.rule refl)
@@ -548,7 +550,7 @@ module _ (Says : List ℕ → Type 0) where
       does-show command (refusal.BadPath path) h of sections says = absurd (no-path command h.kinds)
       does-show command refusal.Usage h of sections says = absurd (no-usage command h.kinds)
       does-show command refusal.InputTooLong h of sections says = (refusal.InputTooLong, refl, says, h.rule refl)
-      does-show command refusal.BadPins h of sections says = inr (says, pins-unread Says command a.store.told b.store.told h.kinds h.pins)
+      does-show command refusal.BadPins h of sections says = inr (says, pins-unread command a.store.told b.store.told h.kinds h.pins)
       does-show command (refusal.Ready reason) h of sections says = inl (reason, says, h.ready)
       does-show command refusal.Read h of sections says = reading-rose (writes_host command) (uses_host command) false a.reads b.reads a.host b.host (writing-uses command) h.reads h.host
       does-show command refusal.Write h of sections says = writing-rose (writes_host command) (uses_host command) false a.writes b.writes a.host b.host h.writes h.host
@@ -559,9 +561,9 @@ module _ (Says : List ℕ → Type 0) where
       does-show command (refusal.Store (fault.Clash cid first second)) h of sections says = (cid, first, second, meeting (own_store command) cid first second (tree-clashes command of) h.cause, says)
       does-show command (refusal.Store fault.Memory) h of sections says = tt
 
-      pub shows : (command : Command) (done : Result (Unit {0}) Refusal) → Does X N command done a b → IfErr done (ByOwnStore X (own_store command) a.left a.store b.store) → IsOf (may_end command) done → TellsEnd Says done given → StatusShows Says X N a b command given
-      shows command (Ok done) s sections of t = subst (StatusShows Says X N a b command) (sym t.0) tt
-      shows command (Err why) s sections of t = by-why (StatusShows Says X N a b command) why given t (does-show command why s of sections) tt
+      pub shows : (command : Command) (done : Result (Unit {0}) Refusal) → Does X N command done a b → IfErr done (ByOwnStore X (own_store command) a.left a.store b.store) → IsOf (may_end command) done → TellsEnd Says done given → StatusShows X N a b command given
+      shows command (Ok done) s sections of t = subst (StatusShows X N a b command) (sym t.0) tt
+      shows command (Err why) s sections of t = by-why (StatusShows X N a b command) why given t (does-show command why s of sections) tt
 
       -- ---- no fault is passed over
 
@@ -763,18 +765,18 @@ module _ (Says : List ℕ → Type 0) where
       -- ---- over a store that stands
 
       pub replies-told : (command : Command) (done : Result (Unit {0}) Refusal) → Does X N command done a b → TellsEnd Says done given
-          → (world : World) → FindsWorld X N (Ok command) a.store.told world → HasOutside (Ok command) (outside_of world) a b → Calm a.store b.store → AllWritten (Ok command) a.writes b.writes a.host.writes b.host.writes → MetNone (Ok command) given → EndsAs Says X N (Ok command) world given a.held b.held b.store.told b.host.told
+          → (world : World) → FindsWorld X N (Ok command) a.store.told world → HasOutside (Ok command) (outside_of world) a b → Calm a.store b.store → AllWritten (Ok command) a.writes b.writes a.host.writes b.host.writes → MetNone (Ok command) given → EndsAs X N (Ok command) world given a b
       replies-told command done s t world finds input calm write none =
           by done (λ own. s.answers world finds input (record { store = calm; written = write; own = own })) t (stays done s)
         where
           stays : (done : Result (Unit {0}) Refusal) → Does X N command done a b → (why : Refusal) → done ≡ Err why → has_details (status_of why) ≡ true → StandsIf X N (needs_standing command) b.store.told world.standing
           stays done h why is detailed = still-stands X N a.store.told b.store.told (needs_standing command) world.standing h.leaves.good (detailed-kept why (prints_after command) a.store.told b.store.told detailed (subst (λ d. KeepsHead d (prints_after command) a.store.told b.store.told) is h.leaves.head)) finds.stands
 
-          ok-by : (done : Unit {0}) → DoesAnswer X N command world (Ok done) a.held b.held b.store.told b.host.told → TellsEnd Says (Ok done) given → EndsAs Says X N (Ok command) world given a.held b.held b.store.told b.host.told
+          ok-by : (done : Unit {0}) → DoesAnswer X N command world (Ok done) a.held b.held b.store.told b.host.told → TellsEnd Says (Ok done) given → EndsAs X N (Ok command) world given a b
           ok-by done (inl x) t = absurd (let e = x.ends_are in cc)
           ok-by done (inr x) t = inr (record { status_is = (ok-ends (reply X N command world).ends given a.held b.held t x.0.ends).0; says = (ok-ends (reply X N command world).ends given a.held b.held t x.0.ends).1; printed = printed-all (reply X N command world).ends (Ok done) a.held b.held x.0.ends; stands = x.0.stands; blocks = x.0.blocks }, x.1)
 
-          err-by : (why : Refusal) → DoesAnswer X N command world (Err why) a.held b.held b.store.told b.host.told → (given ≡ status_of why) × Says (line_of why) → EndsAs Says X N (Ok command) world given a.held b.held b.store.told b.host.told
+          err-by : (why : Refusal) → DoesAnswer X N command world (Err why) a.held b.held b.store.told b.host.told → (given ≡ status_of why) × Says (line_of why) → EndsAs X N (Ok command) world given a b
           err-by why (inl x) t =
               let e : why ≡ no_memory = (let same = x.ends_are in cc) in
               let told = memory-told given (subst (λ w. TellsWhy Says w given) e (inl t)) in
@@ -784,7 +786,7 @@ module _ (Says : List ℕ → Type 0) where
               inr (record { status_is = t.0 ∙ ap ended is; says = subst (λ e. Says (said e)) is t.1; printed = printed-all (reply X N command world).ends (Err why) a.held b.held x.0.ends; stands = x.0.stands; blocks = x.0.blocks }, x.1)
 
           by : (done : Result (Unit {0}) Refusal) → (MetNone (Ok command) (ended done) → DoesAnswer X N command world done a.held b.held b.store.told b.host.told) → TellsEnd Says done given → ((why : Refusal) → done ≡ Err why → has_details (status_of why) ≡ true → StandsIf X N (needs_standing command) b.store.told world.standing)
-              → EndsAs Says X N (Ok command) world given a.held b.held b.store.told b.host.told
+              → EndsAs X N (Ok command) world given a b
           by (Ok done) answers t stays = ok-by done (answers (λ generated e. cc)) t
           by (Err why) answers (inl told) stays = err-by why (answers (λ generated e. none generated (told.0 ∙ e))) told
           by (Err why) answers (inr told) stays = inl (record { status_is = told.1; says = told.2; stands = stays why refl told.0 })

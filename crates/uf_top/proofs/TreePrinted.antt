@@ -23,7 +23,7 @@ use Rattle.uf_command.specs.declared.types.Command.TheVariants.{Gen}
 use Rattle.uf_command.specs.declared.types.Refusal.{Refusal}
 use Rattle.uf_command.specs.declared.types.Refusal.TheVariants as refusal
 use Rattle.uf_top.specs.Answering.{DoesAnswer}
-use Rattle.uf_top.specs.Around.{HostSide, MetNone, RisesFor, around}
+use Rattle.uf_top.specs.Around.{HostSide, MetNone, RisesFor, SinkSide, around}
 use Rattle.uf_top.specs.Cars.{ByOwnStore}
 use Rattle.uf_top.specs.Causes.{IsBadIn, IsReadyBy, is_read}
 use Rattle.uf_top.specs.Endings.{EndsBy, IsTextOf, PrintsPart}
@@ -62,7 +62,7 @@ pub cut-own : (X : List ℕ → List ℕ) (left : streams.Told) (a b : Seen) (te
 cut-own X left a b text h h2 w v (Ok done) p = tt
 cut-own X left a b text h h2 w v (Err why) p = subst (ByOwnStore X OfTree left a b) (sym p.write) tt
 
-module _ (X : List ℕ → List ℕ) (N : List ℕ → ℕ) (n seed : ℕ) (s : Seen) (l : streams.Told) (i t : ℕ) (h : streams.Told) (w : ℕ) (side : HostSide) where
+module _ (X : List ℕ → List ℕ) (N : List ℕ → ℕ) (n seed : ℕ) (s : Seen) (l : streams.Told) (i t : ℕ) (h : streams.Told) (w : ℕ) (side : HostSide) (er er2 : SinkSide) where
   abbrev Says : Refusal → Type 0
   Says why = (why ≡ no_memory) ⊎ (Err why ≡ generated_ends X N n seed)
 
@@ -120,7 +120,7 @@ module _ (X : List ℕ → List ℕ) (N : List ℕ → ℕ) (n seed : ℕ) (s : 
     says = λ none. absurd (none refl refl);
   }
 
-  pub ungenerated-does : (why : Refusal) → IsGenerated X N n seed (Err why) → Does X N (Gen n seed) (Err why) (around s l i h w t side) (around s l i h w t side)
+  pub ungenerated-does : (why : Refusal) → IsGenerated X N n seed (Err why) → Does X N (Gen n seed) (Err why) (around s l i h w t side er) (around s l i h w t side er2)
   ungenerated-does why g =
       let of = of-generating why g in
       let quiet = quiet-of (IsTextOf X N s.told s.told side.told (Gen n seed) l) false why of.other in
@@ -173,7 +173,7 @@ module _ (X : List ℕ → List ℕ) (N : List ℕ → ℕ) (n seed : ℕ) (s : 
   -- ---- its text is printed
 
   module _ (text : List ℕ) (g : IsGenerated X N n seed (Ok text)) (h2 : streams.Told) (v : ℕ) where
-    printed : h2 ≡ after h text → Counts false w v → Does X N (Gen n seed) (Ok tt) (around s l i h w t side) (around s l i h2 v t side)
+    printed : h2 ≡ after h text → Counts false w v → Does X N (Gen n seed) (Ok tt) (around s l i h w t side er) (around s l i h2 v t side er2)
     printed is counts = record {
       answers = λ world finds input calm. answered world finds;
       lost = λ p es rows held outside named tells heights input calm. over p es held outside named;
@@ -202,7 +202,7 @@ module _ (X : List ℕ → List ℕ) (N : List ℕ → ℕ) (n seed : ℕ) (s : 
             → DoesOver X N s.told s.told p es [] (reply X N (Gen n seed) (in_world p es held outside)) (Ok tt) h h2
         over p es held outside named = inr (record { ends = subst (λ x. EndsBy x (Ok tt) h h2) g (refl, is); stands = names-same X N s.told s.told p es refl named })
 
-    cut : IsCut text refusal.Write h h2 w v → Does X N (Gen n seed) (Err refusal.Write) (around s l i h w t side) (around s l i h2 v t side)
+    cut : IsCut text refusal.Write h h2 w v → Does X N (Gen n seed) (Err refusal.Write) (around s l i h w t side er) (around s l i h2 v t side er2)
     cut c = record {
       answers = λ world finds input calm. absurd (not-rose w v (c.counts.rose refl) calm.written.output);
       lost = λ p es rows held outside named tells heights input calm. absurd (not-rose w v (c.counts.rose refl) calm.written.output);
@@ -225,8 +225,8 @@ module _ (X : List ℕ → List ℕ) (N : List ℕ → ℕ) (n seed : ℕ) (s : 
     }
 
     -- or the output failed
-    pub generated-does : (r : Result (Unit {0}) Refusal) → Prints text r h h2 w v → Does X N (Gen n seed) r (around s l i h w t side) (around s l i h2 v t side)
+    pub generated-does : (r : Result (Unit {0}) Refusal) → Prints text r h h2 w v → Does X N (Gen n seed) r (around s l i h w t side er) (around s l i h2 v t side er2)
     generated-does (Ok done) p = printed p.0 p.1
     generated-does (Err why) c =
         let e = c.write in
-        subst (λ (r : Refusal). Does X N (Gen n seed) (Err r) (around s l i h w t side) (around s l i h2 v t side)) (sym e) (cut (subst (λ (r : Refusal). IsCut text r h h2 w v) e c))
+        subst (λ (r : Refusal). Does X N (Gen n seed) (Err r) (around s l i h w t side er) (around s l i h2 v t side er2)) (sym e) (cut (subst (λ (r : Refusal). IsCut text r h h2 w v) e c))

@@ -1,6 +1,6 @@
 -- How a command is told that writes nothing to the store: a clash would be want of memory.
 use Rattle.std.proofs.Common.{◌≡◌, ℕ, List, Bool, true, false, refl, ap, Result, Ok, Err}
-use Rattle.std.specs.Prelude.{IfErr, not, ⊤}
+use Rattle.std.specs.Prelude.{IfErr, not}
 use Rattle.uf_cid.specs.declared.cid.Cid.{Cid}
 use Rattle.uf_edge.specs.Streams as streams
 use Rattle.uf_command.specs.Kinds.{IsOf, may_close, refusal_kind}
@@ -38,7 +38,7 @@ module _ (X : List ℕ → List ℕ) (N : List ℕ → ℕ) (command : Command) 
     rule = λ is. absurd cc;
     reads = h.reads;
     host = h.host;
-    gets = detailed-gets (λ line. ⊤) status.Ok X N a b command a.store.told a.host.told b.host.told status.Clash refl h.gets;
+    gets = detailed-gets a b status.Ok X N command a.store.told a.host.told b.host.told status.Clash refl h.gets;
     pins = detailed-pins command (refusal.Store (fault.Clash cid first second)) a.store.told b.store.told refl h.pins;
     writes = h.writes;
     cause = record { finds = h.cause.rises.finds; misses = h.cause.rises.misses; faults = h.cause.faults; clashes = h.cause.rises.clashes };

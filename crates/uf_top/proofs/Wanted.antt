@@ -6,8 +6,8 @@ use Rattle.uf_lines.specs.LinesIn.{lines_in}
 use Rattle.uf_command.specs.Statuses.{no_memory}
 use Rattle.uf_command.specs.declared.status.Status.{Status}
 use Rattle.uf_command.specs.declared.types.Refusal.{Refusal}
-use Rattle.uf_top.specs.Around.{Around}
-use Rattle.uf_top.specs.Batch.{AreOf, Batches, ByMemory, Said, SinkSide, without_input}
+use Rattle.uf_top.specs.Around.{Around, Said}
+use Rattle.uf_top.specs.Batch.{AreOf, Batches, ByMemory, without_input}
 use Rattle.uf_command.specs.Telling.{TellsEnd, TellsWhy}
 use Rattle.uf_top.specs.Working.{IsIdle}
 
@@ -21,16 +21,16 @@ module _ (Says : List ℕ → Type 0) (given : Status) (done : Result (Unit {0})
   wants (inr is) t = subst (λ d. TellsEnd Says d given) is t
 
 -- nothing was done, and that is told
-pub batch-wants : (X : List ℕ → List ℕ) (N : List ℕ → ℕ) (most limit : ℕ) (given : Status) (done : Result (Unit {0}) Refusal) (a b : Around) (err err_now : SinkSide) → IsIdle X N no_memory done a b → TellsEnd (Said err err_now) done given
-    → Batches X N most limit given (record { around = a; errors = err }) (record { around = b; errors = err_now })
-batch-wants X N most limit given done a b err err_now idle t = record {
+pub batch-wants : (X : List ℕ → List ℕ) (N : List ℕ → ℕ) (most limit : ℕ) (given : Status) (done : Result (Unit {0}) Refusal) (a b : Around) → IsIdle X N no_memory done a b → TellsEnd (Said a.errors b.errors) done given
+    → Batches X N most limit given a b
+batch-wants X N most limit given done a b idle t = record {
   lines = [];
-  between = without_input (record { around = a; errors = err });
+  between = without_input a;
   ending = ByMemory;
   done = refl;
   ends = record {
     same = ap (λ (x : Around). record x { left = Some []; reads = 0 }) idle.same;
-    told = wants (Said err err_now) given done idle.refused t;
+    told = wants (Said a.errors b.errors) given done idle.refused t;
   };
   told = some-of X N most limit a.left;
   nothing_left = λ is. absurd cc;

@@ -38,7 +38,7 @@ use Rattle.uf_top.specs.Bounds.{command_touches}
 use Rattle.uf_top.specs.Causes.{IsBadIn, IsLongAt, IsReady, OnlyWants, RefusesOpening, TakesAll, is_read}
 use Rattle.uf_top.specs.Losing.{AnswersOver, command_needs}
 use Rattle.uf_top.specs.Naming.{NamesAfter}
-use Rattle.uf_top.specs.Around.{HostSide, around}
+use Rattle.uf_top.specs.Around.{HostSide, SinkSide, around}
 use Rattle.uf_top.specs.Working.{Makes}
 use Rattle.uf_top.proofs.Added.{all_given, given_few}
 use Rattle.uf_top.proofs.Classed.{opening-kinds, tree-counts}
@@ -138,9 +138,9 @@ module _ (how : WriteHow) (path : Path) where
       same-reply : (s : Standing) (bytes : List ℕ) → HasInput (Ok (WriteInput how path)) l bytes i j → in_tree (input_reply X N how path.names bytes) s ≡ in_tree (tree_reply X N (Edits (Write how piece)) path.names) s
       same-reply s bytes input = ap (λ (bs : List ℕ). in_tree (input_reply X N how path.names bs) s) (given-is bytes input) ∙ piece-reply s
 
-      pub input-written : (r : Result (List ℕ) Refusal) (a b : Seen) (h : streams.Told) (w t0 t1 : ℕ) (side : HostSide) → Makes X N (At (Edits (Write how piece)) path) r (around a l i h w t0 side) (around b l i h w t1 side)
-          → Makes X N (WriteInput how path) r (around a l i h w t0 side) (around b k j h w t1 side)
-      input-written r a b h w t0 t1 side mk = record {
+      pub input-written : (r : Result (List ℕ) Refusal) (a b : Seen) (h : streams.Told) (w t0 t1 : ℕ) (side : HostSide) (er er2 : SinkSide) → Makes X N (At (Edits (Write how piece)) path) r (around a l i h w t0 side er) (around b l i h w t1 side er2)
+          → Makes X N (WriteInput how path) r (around a l i h w t0 side er) (around b k j h w t1 side er2)
+      input-written r a b h w t0 t1 side er er2 mk = record {
         answers = λ world stands input calm. let s = world.standing in let bytes = world.input in subst (λ given. Answers X N s given r b.told) (sym (same-reply s bytes input.0)) (mk.answers world stands ((λ e. absurd cc), input.1, input.2) calm);
         lost = λ p es heights held outside named input calm. let bytes = outside.input in subst (λ given. AnswersOver X N a.told b.told p es (command_needs X N (λ n. 0) (WriteInput how path) p es) given r) (sym (same-reply (Stands p es) bytes input.0)) (mk.lost p es heights held outside named ((λ e. absurd cc), input.1, input.2) calm);
         kinds = tree-taken r mk.kinds;
@@ -163,7 +163,7 @@ module _ (how : WriteHow) (path : Path) where
 
     -- ---- the input isn't taken
 
-    module _ (a m : Seen) (told : m.told ≡ a.told) (l k : streams.Told) (i j : ℕ) (h : streams.Told) (w t0 t1 : ℕ) (side : HostSide) (opens_by : t1 ≤ t0 + 1) where
+    module _ (a m : Seen) (told : m.told ≡ a.told) (l k : streams.Told) (i j : ℕ) (h : streams.Told) (w t0 t1 : ℕ) (side : HostSide) (er er2 : SinkSide) (opens_by : t1 ≤ t0 + 1) where
       taken-answers : (why : Refusal) (bytes : List ℕ) (p : Profile) (es : Entries) → TakesAll (Err why) l k → Counts (is_read {A = List ℕ} (Err why)) i j → HasInput (Ok (WriteInput how path)) l bytes i j → TellsAs X N m.told (Stands p es)
           → Answers X N (Stands p es) (input_reply X N how path.names bytes p es) (Err why) m.told
       taken-answers (refusal.Rule rule) bytes p es takes counts input stands = absurd takes
@@ -302,7 +302,7 @@ module _ (how : WriteHow) (path : Path) where
       taken-blames (refusal.Store f) takes blames = subst (λ f. IsBlaming (Some f)) takes blames
 
       pub input-refused : (mfs : Mfs) (why : Refusal) → ((s : Standing) → TellsAs X N a.told s → Stood a.faults m.faults → Opens X N m.told s (Ok mfs)) → StaysCalm a m
-          → TakesAll (Err why) l k → Counts (is_read {A = List ℕ} (Err why)) i j → Makes X N (WriteInput how path) (Err why) (around a l i h w t0 side) (around m k j h w t1 side)
+          → TakesAll (Err why) l k → Counts (is_read {A = List ℕ} (Err why)) i j → Makes X N (WriteInput how path) (Err why) (around a l i h w t0 side er) (around m k j h w t1 side er2)
       input-refused mfs why opens calm takes counts = record {
         answers = λ world stands input calm2. let s = world.standing in let bytes = world.input in opened X N s (input_reply X N how path.names bytes) mfs m.told m.told (Err why) (opens s stands calm2.faults) (stands-same X N a.told m.told s told stands)
             (λ p es at now. taken-answers why bytes p es takes counts input.0 now);
@@ -324,7 +324,7 @@ module _ (how : WriteHow) (path : Path) where
 
       pub input-unopened : (f : MfsFault) (why : Refusal) → RefusesOpening f why → ((s : Standing) → TellsAs X N a.told s → Stood a.faults m.faults → Opens X N m.told s (Err f))
           → ((p : Profile) (es : Entries) → NamesOver X N a.told p es → Stood a.faults m.faults → OpensOver X N a.told p es (Err f))
-          → ReadsHead a.told (Err f) → CountsUp (tree_fault {A = Mfs} (Err f)) t0 t1 → ShownOpening X (IsBadInHead X N a.told) {A = Mfs} (Err f) a m → Makes X N (WriteInput how path) (Err why) (around a l i h w t0 side) (around m l i h w t1 side)
+          → ReadsHead a.told (Err f) → CountsUp (tree_fault {A = Mfs} (Err f)) t0 t1 → ShownOpening X (IsBadInHead X N a.told) {A = Mfs} (Err f) a m → Makes X N (WriteInput how path) (Err why) (around a l i h w t0 side er) (around m l i h w t1 side er2)
       input-unopened f why is opens lost head up cause = record {
         answers = λ world stands input calm. let s = world.standing in let bytes = world.input in not-opened X N s (input_reply X N how path.names bytes) f why m.told is (opens s stands calm.faults) (stands-same X N a.told m.told s told stands);
         lost = λ p es heights held outside named input calm. let bytes = outside.input in opening-over X N a.told m.told p es (blocks X N p (Dir es)) (input_reply X N how path.names bytes p es) f why is (lost p es named.names calm.faults)

@@ -4,7 +4,7 @@ use Rattle.std.specs.declared.option.Option.TheVariants.{Some}
 use Rattle.std.specs.FinMap.{get}
 use Rattle.uf_cid.specs.Blocks.{Held, Holds}
 use Rattle.uf_edge.specs.Streams.{after}
-use Rattle.uf_store.specs.Contents.{Contents, HeldMap, Notes}
+use Rattle.uf_store.specs.Contents.{Contents}
 use Rattle.uf_store.specs.declared.store.Write.{Write}
 use Rattle.uf_tree.specs.FilePlan.{file_plan}
 use Rattle.uf_tree.specs.Metas.{none}

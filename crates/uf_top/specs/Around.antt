@@ -1,5 +1,5 @@
 -- What is told around a command, before it or after it.
-use Rattle.std.specs.Prelude.{◌≡◌, ◌≢◌, ◌⊎◌, ◌≤◌, ℕ, Bool, true, false, ◌&&◌, not}
+use Rattle.std.specs.Prelude.{◌≡◌, ◌≢◌, ◌⊎◌, ◌≤◌, ℕ, List, Bool, true, false, ◌&&◌, not}
 use Rattle.std.specs.declared.result.Result.{Result}
 use Rattle.uf_edge.specs.Counts.{Counts, Rose, Stood}
 use Rattle.uf_edge.specs.Host.{HostTold}
@@ -11,6 +11,7 @@ use Rattle.uf_store.specs.Seen.{Seen}
 use Rattle.uf_command.specs.Commands.{HasHost, HasInput, of_command}
 use Rattle.uf_command.specs.Pins.{HasPins}
 use Rattle.uf_command.specs.Natures.{generates, uses_host, writes_host}
+use Rattle.uf_command.specs.Telling.{IsSent}
 use Rattle.uf_command.specs.declared.status.Status.{Status}
 use Rattle.uf_command.specs.declared.status.Status.TheVariants as status
 use Rattle.uf_command.specs.declared.types.Command.{Command}
@@ -27,8 +28,17 @@ pub record HostSide : Type 0 where
 abbrev pub host_side : HostTold → ℕ → ℕ → HostSide
 host_side told reads writes = record { told = told; reads = reads; writes = writes }
 
+-- what a text sink holds, and how often its writing failed
+pub record SinkSide : Type 0 where
+  pub held : streams.Told
+  pub faults : ℕ
+
+-- a line went to `errors`, or a part of it where its count rose
+abbrev pub Said : SinkSide → SinkSide → List ℕ → Type 0
+Said before now line = IsSent line before.held now.held before.faults now.faults
+
 -- what the store shows, what is left of the input and how often its reading failed, what the output holds and how often
--- its writing failed, how many touches were counted, and the host
+-- its writing failed, how many touches were counted, the host, and the error lines so far
 pub record Around : Type 0 where
   pub store : Seen
   pub left : streams.Told
@@ -37,10 +47,23 @@ pub record Around : Type 0 where
   pub writes : ℕ
   pub touches : ℕ
   pub host : HostSide
+  pub errors : SinkSide
 
-abbrev pub around : Seen → streams.Told → ℕ → streams.Told → ℕ → ℕ → HostSide → Around
-around store left reads held writes touches host =
-    record { store = store; left = left; reads = reads; held = held; writes = writes; touches = touches; host = host }
+abbrev pub around : Seen → streams.Told → ℕ → streams.Told → ℕ → ℕ → HostSide → SinkSide → Around
+around store left reads held writes touches host errors = record {
+  store = store;
+  left = left;
+  reads = reads;
+  held = held;
+  writes = writes;
+  touches = touches;
+  host = host;
+  errors = errors;
+}
+
+-- all but `errors` is as before
+abbrev pub SameButErrors : Around → Around → Type 0
+SameButErrors before now = now ≡ record before { errors = now.errors }
 
 -- what is outside of the tree is so, where the command asks for it
 abbrev pub HasOutside : Result Command Refusal → Outside → Around → Around → Type 0

@@ -12,34 +12,20 @@ use Rattle.uf_command.specs.Batches.{line_in}
 use Rattle.uf_command.specs.Commands.{of_command}
 use Rattle.uf_command.specs.Natures.{IsOfCommand, NoStore, own_store}
 use Rattle.uf_command.specs.Statuses.{ends_batch, mark, no_memory}
-use Rattle.uf_command.specs.Telling.{IsSent, TellsEnd, TellsWhy}
+use Rattle.uf_command.specs.Telling.{TellsEnd, TellsWhy}
 use Rattle.uf_command.specs.declared.status.Status.{Status}
 use Rattle.uf_command.specs.declared.status.Status.TheVariants as status
 use Rattle.uf_command.specs.declared.types.Command.{Command}
 use Rattle.uf_command.specs.declared.types.Refusal.{Refusal}
 use Rattle.uf_command.specs.declared.types.Refusal.TheVariants as refusal
-use Rattle.uf_top.specs.Around.{Around}
+use Rattle.uf_top.specs.Around.{Around, Said, SameButErrors, SinkSide}
 use Rattle.uf_top.specs.Cars.{ByOwnStore}
 use Rattle.uf_top.specs.Running.{Runs}
 use Rattle.uf_top.specs.Working.{Serves}
 
--- what a text sink holds, and how often its writing failed
-pub record SinkSide : Type 0 where
-  pub held : streams.Told
-  pub faults : ℕ
-
--- what is around a batch or one of its lines, and the error lines so far
-pub record Scene : Type 0 where
-  pub around : Around
-  pub errors : SinkSide
-
 -- the same with no input: so the commands of the lines find it
-abbrev pub without_input : Scene → Scene
-without_input s = record { around = record s.around { left = Some []; reads = 0 }; errors = s.errors }
-
--- a line went to `errors`, or a part of it where its count rose
-abbrev pub Said : SinkSide → SinkSide → List ℕ → Type 0
-Said before now line = IsSent line before.held now.held before.faults now.faults
+abbrev pub without_input : Around → Around
+without_input a = record a { left = Some []; reads = 0 }
 
 -- the whole text was printed, and nothing else has changed
 pub record PrintsWhole (text : List ℕ) (before now : SinkSide) : Type 0 where
@@ -51,15 +37,12 @@ pub record PrintsCut (text : List ℕ) (before now : SinkSide) : Type 0 where
   pub printed : AppendsPrefix text before.held now.held
   pub counted : Rose before.faults now.faults
 
-abbrev pub output_of : Scene → SinkSide
-output_of s = record { held = s.around.held; faults = s.around.writes }
+abbrev pub output_of : Around → SinkSide
+output_of a = record { held = a.held; faults = a.writes }
 
--- a scene with this output and these error lines
-abbrev pub with_sinks : SinkSide → SinkSide → Scene → Scene
-with_sinks output errors s = record {
-  around = record s.around { held = output.held; writes = output.faults };
-  errors = errors;
-}
+-- the same with this output
+abbrev pub with_output : SinkSide → Around → Around
+with_output output a = record a { held = output.held; writes = output.faults }
 
 -- the status of a line where the batch goes on was reported and printed
 pub record MarksOn (done : Result (Unit {0}) Refusal) (given : Status) (out out_now err err_now : SinkSide)
@@ -106,54 +89,54 @@ module _ (X : List ℕ → List ℕ) (N : List ℕ → ℕ) where
 
   abbrev pub LineServed : Option (Result Command Refusal) → Option (Result (Unit {0}) Refusal) → (before now : Around)
       → Type 0
-  LineServed told None before now = (told ≡ None) × (now ≡ before)
+  LineServed told None before now = (told ≡ None) × SameButErrors before now
   LineServed told (Some done) before now = ServesLine told done before now
 
   -- a line was done as a command, with this status, and its error line was reported
-  pub record LineDone (line : List ℕ) (given : Status) (before now : Scene) : Type 0 where
+  pub record LineDone (line : List ℕ) (given : Status) (before now : Around) : Type 0 where
     pub asked : Result Command Refusal
     pub asks : (line_in line ≡ Some asked) ⊎ (asked ≡ Err no_memory)
-    pub runs : Runs (Said before.errors now.errors) X N asked given before.around now.around
+    pub runs : Runs X N asked given before now
 
   -- a line was done, its status printed, and the batch goes on
-  pub record LinePassed (line : List ℕ) (before now : Scene) : Type 0 where
+  pub record LinePassed (line : List ℕ) (before now : Around) : Type 0 where
     pub given : Status
     pub printed : SinkSide
-    pub done : LineDone line given before (with_sinks printed now.errors now)
+    pub done : LineDone line given before (with_output printed now)
     pub goes_on : ends_batch given ≡ false
     pub marked : PrintsWhole (mark given) printed (output_of now)
 
   -- a line was done, and its status ends the batch
-  pub record LineEnds (line : List ℕ) (given : Status) (before now : Scene) : Type 0 where
+  pub record LineEnds (line : List ℕ) (given : Status) (before now : Around) : Type 0 where
     pub printed : SinkSide
-    pub done : LineDone line given before (with_sinks printed now.errors now)
+    pub done : LineDone line given before (with_output printed now)
     pub ends : ends_batch given ≡ true
     pub unmarked : given ≡ status.WriteFault → output_of now ≡ printed
     pub marked : (given ≡ status.WriteFault → ⊥)
         → PrintsWhole (mark given) printed (output_of now) ⊎ PrintsCut (mark given) printed (output_of now)
 
   -- a line was done, and its status couldn't be printed
-  pub record LineCut (line : List ℕ) (given : Status) (before now : Scene) : Type 0 where
+  pub record LineCut (line : List ℕ) (given : Status) (before now : Around) : Type 0 where
     pub was : Status
     pub printed : SinkSide
     pub between : SinkSide
-    pub done : LineDone line was before (with_sinks printed between now)
+    pub done : LineDone line was before (record (with_output printed now) { errors = between })
     pub goes_on : ends_batch was ≡ false
     pub cut : PrintsCut (mark was) printed (output_of now)
     pub tells : TellsWhy (Said between now.errors) refusal.Write given
 
   -- what a line does where the batch goes on: nothing where it has no word
-  abbrev pub LineGone : List ℕ → Scene → Scene → Type 0
+  abbrev pub LineGone : List ℕ → Around → Around → Type 0
   LineGone line before now = ((line_in line ≡ None) × (now ≡ before)) ⊎ LinePassed line before now
 
-  abbrev pub DoesLine : List ℕ → Option Status → Scene → Scene → Type 0
+  abbrev pub DoesLine : List ℕ → Option Status → Around → Around → Type 0
   DoesLine line None before now = LineGone line before now
   DoesLine line (Some given) before now = LineEnds line given before now ⊎ LineCut line given before now
 
   -- lines that were done one after the other
-  abbrev pub LinesDone : List (List ℕ) → Scene → Scene → Type 0
+  abbrev pub LinesDone : List (List ℕ) → Around → Around → Type 0
   LinesDone [] before now = now ≡ before
-  LinesDone (line ∷ lines) before now = (between : Scene) × LineGone line before between × LinesDone lines between now
+  LinesDone (line ∷ lines) before now = (between : Around) × LineGone line before between × LinesDone lines between now
 
   -- the ways in which a batch ends: with its input, at a line that fails or whose status can't be printed, at what is
   -- too long, by a failed reading, or is out of memory
@@ -162,11 +145,11 @@ module _ (X : List ℕ → List ℕ) (N : List ℕ → ℕ) where
     AtLine : List ℕ → Ending
 
   -- only a line went to `errors`
-  pub record Tells (why : Refusal) (given : Status) (before now : Scene) : Type 0 where
-    pub same : now.around ≡ before.around
+  pub record Tells (why : Refusal) (given : Status) (before now : Around) : Type 0 where
+    pub same : SameButErrors before now
     pub told : TellsWhy (Said before.errors now.errors) why given
 
-  abbrev pub EndsSo : Ending → Status → Scene → Scene → Type 0
+  abbrev pub EndsSo : Ending → Status → Around → Around → Type 0
   EndsSo WithInput given before now = (given ≡ status.Ok) × (now ≡ before)
   EndsSo TooLong given before now = Tells refusal.InputTooLong given before now
   EndsSo ByReading given before now = Tells refusal.Read given before now
@@ -186,12 +169,12 @@ module _ (X : List ℕ → List ℕ) (N : List ℕ → ℕ) where
   ReadingFails other reads reads_now = reads_now ≡ reads
 
   -- what a batch did: the lines of its input, with no input of their own
-  pub record Batches (most limit : ℕ) (given : Status) (before now : Scene) : Type 0 where
+  pub record Batches (most limit : ℕ) (given : Status) (before now : Around) : Type 0 where
     pub lines : List (List ℕ)
-    pub between : Scene
+    pub between : Around
     pub ending : Ending
     pub done : LinesDone lines (without_input before) between
     pub ends : EndsSo ending given between (without_input now)
-    pub told : IfSome before.around.left (λ bytes. AreOf ending lines (lines_in most limit bytes))
-    pub nothing_left : ending ≡ WithInput → streams.IsAtEnd now.around.left
-    pub fails : ReadingFails ending before.around.reads now.around.reads
+    pub told : IfSome before.left (λ bytes. AreOf ending lines (lines_in most limit bytes))
+    pub nothing_left : ending ≡ WithInput → streams.IsAtEnd now.left
+    pub fails : ReadingFails ending before.reads now.reads

@@ -10,7 +10,7 @@ use Rattle.uf_command.specs.declared.status.Status.TheVariants as status
 use Rattle.uf_store.specs.Contents.{Contents, Told}
 use Rattle.uf_store.specs.declared.store.Write.{Write}
 use Rattle.uf_top.specs.Around.{Around, CountsCanRise}
-use Rattle.uf_top.specs.Batch.{AtLine, Ending, LineDone, LinesDone, Scene}
+use Rattle.uf_top.specs.Batch.{AtLine, Ending, LineDone, LinesDone}
 use Rattle.uf_top.specs.Endings.{may_move}
 use Rattle.uf_top.specs.Outcomes.{EachOutcome, IsSafeFor, LeavesEither, LeavesTree}
 use Rattle.uf_tree.specs.Standing.{Stands}
@@ -38,12 +38,12 @@ module _ (X : List ℕ → List ℕ) (N : List ℕ → ℕ) where
 
   -- a line of a batch that has a word: those before it were done, and then it, which left this before its status
   -- was printed
-  pub record LineOf (lines : List (List ℕ)) (ending : Ending X N) (before : Scene) : Type 0 where
+  pub record LineOf (lines : List (List ℕ)) (ending : Ending X N) (before : Around) : Type 0 where
     pub front : List (List ℕ)
     pub line : List ℕ
     pub given : Status
-    pub found : Scene
-    pub left : Scene
+    pub found : Around
+    pub left : Around
     pub behind : IsBehind front line lines ending
     pub first : LinesDone X N front before found
     pub done : LineDone X N line given found left
@@ -63,22 +63,23 @@ module _ (X : List ℕ → List ℕ) (N : List ℕ → ℕ) where
     pub written : before.writes < now.writes → (given ≡ status.WriteFault) ⊎ EndsAtLine ending given
 
   -- a line of a batch moved the Head to where it is in the end: by its status it may
-  pub record MovesByLine (lines : List (List ℕ)) (ending : Ending X N) (before : Scene) (now : Told) : Type 0 where
+  pub record MovesByLine (lines : List (List ℕ)) (ending : Ending X N) (before : Around) (now : Told) : Type 0 where
     pub one : LineOf lines ending before
     pub may : may_move one.done.asked one.given ≡ true
-    pub head : head_in now ≡ head_in one.left.around.store.told
+    pub head : head_in now ≡ head_in one.left.store.told
 
   -- writes end during a line of a batch, and what a stop after them leaves stands for the tree before that line or the
   -- tree after it
-  pub record StopsInLine (lines : List (List ℕ)) (ending : Ending X N) (before : Scene) (ws : List Write) : Type 0 where
+  pub record StopsInLine (lines : List (List ℕ)) (ending : Ending X N) (before : Around) (ws : List Write)
+      : Type 0 where
     pub one : LineOf lines ending before
     pub p : Profile
     pub es : Entries
     pub q : Profile
     pub fs : Entries
-    pub stood : TellsAs X N one.found.around.store.told (Stands p es)
-    pub stands : TellsAs X N one.left.around.store.told (Stands q fs)
-    pub during : EndsDuring one.found.around.store.told one.left.around.store.told ws
+    pub stood : TellsAs X N one.found.store.told (Stands p es)
+    pub stands : TellsAs X N one.left.store.told (Stands q fs)
+    pub during : EndsDuring one.found.store.told one.left.store.told ws
     pub leaves : EachOutcome (LeavesEither X N p es q fs) ws
 
   -- nothing was written yet, and what a stop leaves stands for the tree before the batch
@@ -88,8 +89,8 @@ module _ (X : List ℕ → List ℕ) (N : List ℕ → ℕ) where
 
   -- a line or a batch begins over contents that are safe for this tree, the host tells these files and folders, and no
   -- count is at its last value
-  pub record BeginsSafe (host : HostTree) (before : Scene) (a : Contents) (p : Profile) (es : Entries) : Type 0 where
-    pub told : before.around.store.told ≡ Some a
+  pub record BeginsSafe (host : HostTree) (before : Around) (a : Contents) (p : Profile) (es : Entries) : Type 0 where
+    pub told : before.store.told ≡ Some a
     pub safe : IsSafeFor X N a p es
-    pub host_told : before.around.host.told ≡ Some host
-    pub room : AllCanRise before.around
+    pub host_told : before.host.told ≡ Some host
+    pub room : AllCanRise before

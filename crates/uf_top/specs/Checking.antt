@@ -24,7 +24,7 @@ use Rattle.uf_tree.specs.declared.profile.Profile.{Profile}
 use Rattle.uf_command.specs.Telling.{TellsEnd}
 use Rattle.uf_command.specs.declared.status.Status.{Status}
 use Rattle.uf_command.specs.declared.types.Refusal.{Refusal}
-use Rattle.uf_top.specs.Around.{Around}
+use Rattle.uf_top.specs.Around.{Around, Said}
 use Rattle.uf_top.specs.Light.{EndsLight, most_of_proof}
 
 module _ (X : List ℕ → List ℕ) (N : List ℕ → ℕ) (absent : Bool) (root : Cid) (names : List (List ℕ)) where
@@ -68,14 +68,13 @@ module _ (X : List ℕ → List ℕ) (N : List ℕ → ℕ) (absent : Bool) (roo
     pub checks : ChecksInput answer left was is held held_now was_sent is_sent
     pub ends : EndsLight names answer done
 
--- Says holds of the line that went to `errors`
-module _ (Says : List ℕ → Type 0) (X : List ℕ → List ℕ) (N : List ℕ → ℕ) where
+module _ (X : List ℕ → List ℕ) (N : List ℕ → ℕ) where
   -- what `check` did: how it ended, what the input proves of a path below a root, and that the store is as before
   pub record RunsCheck (absent : Bool) (root : Cid) (names : List (List ℕ)) (given : Status) (before now : Around)
       : Type 0 where
     -- how the check ended, which the status and the line report
     pub done : Result (Unit {0}) Refusal
-    pub tells : TellsEnd Says done given
+    pub tells : TellsEnd (Said before.errors now.errors) done given
     pub checks : ChecksAndEnds X N absent root names done before.left before.reads now.reads before.held now.held
         before.writes now.writes
     -- the store and the host are as before

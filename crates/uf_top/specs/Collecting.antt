@@ -36,7 +36,7 @@ use Rattle.uf_command.specs.Telling.{Prints, TellsEnd}
 use Rattle.uf_command.specs.declared.status.Status.{Status}
 use Rattle.uf_command.specs.declared.types.Refusal.{Refusal}
 use Rattle.uf_command.specs.declared.types.Refusal.TheVariants as refusal
-use Rattle.uf_top.specs.Around.{Around}
+use Rattle.uf_top.specs.Around.{Around, Said}
 use Rattle.uf_top.specs.Outcomes.{IsSafeFor}
 
 -- ---- what is kept
@@ -141,13 +141,12 @@ module _ (X : List ℕ → List ℕ) where
     pub lets_go : LetsGo gone before now
     pub prints : PrintsGone gone done held held_now writes writes_now
 
--- Says holds of the line that went to `errors`
-module _ (Says : List ℕ → Type 0) (X : List ℕ → List ℕ) (N : List ℕ → ℕ) where
+module _ (X : List ℕ → List ℕ) (N : List ℕ → ℕ) where
   -- what `repo gc` did: how it ended, which blocks went, and that what is kept stays, whatever failed
   pub record RunsGc (given : Status) (before now : Around) : Type 0 where
     -- how the collection ended, which the status and the line report
     pub done : Result (Unit {0}) Refusal
-    pub tells : TellsEnd Says done given
+    pub tells : TellsEnd (Said before.errors now.errors) done given
     -- what neither the Head's root nor a pin leads to went, and the number of these blocks was printed; or nothing
     -- went, and why; or the store failed
     pub collects : LetsGoAndPrints X done before.store now.store before.held now.held before.writes now.writes

@@ -15,6 +15,7 @@ use Rattle.uf_tree.specs.Tree.{Dir, Entries, File, Tree}
 use Rattle.uf_tree.specs.TreePlan.{blocks}
 use Rattle.uf_tree.specs.declared.profile.Profile.{Profile}
 use Rattle.uf_command.specs.Lines.{line_of, said}
+use Rattle.uf_top.specs.Around.{Around, Said}
 use Rattle.uf_top.specs.Reply.{Reply}
 use Rattle.uf_command.specs.Statuses.{ended, status_of}
 use Rattle.uf_command.specs.declared.status.Status.{Status}
@@ -87,23 +88,23 @@ module _ (X : List ℕ → List ℕ) (N : List ℕ → ℕ) where
       abbrev pub DoesOver : Reply → Result (Unit {0}) Refusal → streams.Told → streams.Told → Type 0
       DoesOver given done held held_now = IsLossOver done ⊎ IsDoneOver given done held held_now
 
-      -- in the words below, Says holds of the line that went to `errors`
-      module _ (Says : List ℕ → Type 0) where
-        -- a lost block by the status and the line
-        pub record TellsLoss (given : Status) : Type 0 where
-          pub fault : StoreFault
-          pub loss : IsLossOf before needs fault
-          pub status_is : given ≡ status_of (refusal.Store fault)
-          pub says : Says (line_of (refusal.Store fault))
-          pub stands : NamesAfter X N before now (blocks X N p (Dir es)) p es
+  -- the same as `errors` tells it
+  module _ (p : Profile) (es : Entries) (needs : List Held) where
+    -- a lost block by the status and the line
+    pub record TellsLoss (given : Status) (before now : Around) : Type 0 where
+      pub fault : StoreFault
+      pub loss : IsLossOf before.store.told needs fault
+      pub status_is : given ≡ status_of (refusal.Store fault)
+      pub says : Said before.errors now.errors (line_of (refusal.Store fault))
+      pub stands : NamesAfter X N before.store.told now.store.told (blocks X N p (Dir es)) p es
 
-        -- the status, the line and what is printed are the reply's
-        pub record RepliesOver (reply : Reply) (given : Status) (held held_now : streams.Told) : Type 0 where
-          pub status_is : given ≡ ended reply.ends
-          pub says : Says (said reply.ends)
-          pub printed : PrintsAll reply.ends held held_now
-          pub stands : StandsNamed X N before now (blocks X N p (Dir es)) reply.next
+    -- the status, the line and what is printed are the reply's
+    pub record RepliesOver (reply : Reply) (given : Status) (before now : Around) : Type 0 where
+      pub status_is : given ≡ ended reply.ends
+      pub says : Said before.errors now.errors (said reply.ends)
+      pub printed : PrintsAll reply.ends before.held now.held
+      pub stands : StandsNamed X N before.store.told now.store.told (blocks X N p (Dir es)) reply.next
 
-        -- the answer is the reply, or a needed block is lost, or out of memory
-        abbrev pub EndsOver : Reply → Status → streams.Told → streams.Told → Type 0
-        EndsOver reply given held held_now = TellsLoss given ⊎ RepliesOver reply given held held_now
+    -- the answer is the reply, or a needed block is lost, or out of memory
+    abbrev pub EndsOver : Reply → Status → Around → Around → Type 0
+    EndsOver reply given before now = TellsLoss given before now ⊎ RepliesOver reply given before now

@@ -16,7 +16,7 @@ use Rattle.uf_command.specs.declared.types.Refusal.{Refusal}
 use Rattle.uf_store.specs.Calls.{Calm}
 use Rattle.uf_store.specs.Keeping.{KeepsGood}
 use Rattle.uf_top.specs.Answering.{LeavesNext}
-use Rattle.uf_top.specs.Around.{Around, CountsCanRise, HasOutside, NoneFalls, StaysQuiet}
+use Rattle.uf_top.specs.Around.{Around, CountsCanRise, HasOutside, NoneFalls, SameButErrors, StaysQuiet}
 use Rattle.uf_top.specs.Bounds.{command_touches}
 use Rattle.uf_top.specs.Caused.{StatusShows}
 use Rattle.uf_top.specs.Endings.{EndsAs, FindsAll, IsRefusedBy, IsSyncedFor, IsTextOf, PrintsAt, PrintsPart, SaysPlain, may_move}
@@ -30,15 +30,14 @@ use Rattle.uf_tree.specs.Standing.{Standing}
 use Rattle.uf_tree.specs.Tree.{Entries}
 use Rattle.uf_tree.specs.declared.profile.Profile.{Profile}
 
--- Says holds of the line that went to `errors`
-module _ (Says : List ℕ → Type 0) (X : List ℕ → List ℕ) (N : List ℕ → ℕ) where
+module _ (X : List ℕ → List ℕ) (N : List ℕ → ℕ) where
   -- over every store an answer is of a kind that the command may answer: so `init`, `add`, `dag import` and `gen` look
   -- for no block, and one that writes nothing to the store meets no clash there. Each answer has its cause, and its
   -- line goes to `errors`
   pub record IsAnswered (command : Command) (given : Status) (before now : Around) : Type 0 where
     pub kinds : may_give command given ≡ true
-    pub lines : SaysPlain Says given
-    pub cause : StatusShows Says X N before now command given
+    pub lines : SaysPlain given before now
+    pub cause : StatusShows X N before now command given
 
 -- a count of failures, or of clashes, that rose has its answer, and no count falls
 pub record TellsFaults (given : Status) (before now : Around) : Type 0 where
@@ -89,12 +88,12 @@ module _ (X : List ℕ → List ℕ) (N : List ℕ → ℕ) where
     pub bad : given ≡ status.BadBlock → before.touches < now.touches
 
 -- words that are no command, or of which a text is no path, are refused so, or there was no memory; nothing was done
-pub record RefusesWords (Says : List ℕ → Type 0) (why : Refusal) (given : Status) (before now : Around) : Type 0 where
+pub record RefusesWords (why : Refusal) (given : Status) (before now : Around) : Type 0 where
   pub words : IsOfWords (Err why)
-  pub refused : IsRefusedBy Says why given
-  pub same : now ≡ before
+  pub refused : IsRefusedBy why given before now
+  pub same : SameButErrors before now
 
-module _ (Says : List ℕ → Type 0) (X : List ℕ → List ℕ) (N : List ℕ → ℕ) where
+module _ (X : List ℕ → List ℕ) (N : List ℕ → ℕ) where
   -- what a command did
   pub record RunsCommand (command : Command) (given : Status) (before now : Around) : Type 0 where
     -- over a store that stands as the command needs it and, where the command uses it, an input or a host that tells,
@@ -103,7 +102,7 @@ module _ (Says : List ℕ → Type 0) (X : List ℕ → List ℕ) (N : List ℕ 
     -- input and the output do
     pub replies : (w : World) → FindsWorld X N (Ok command) before.store.told w
         → HasOutside (Ok command) (outside_of w) before now → StaysQuiet (Ok command) given before now
-        → EndsAs Says X N (Ok command) w given before.held now.held now.store.told now.host.told
+        → EndsAs X N (Ok command) w given before now
     -- where `add --to-files` has put what it adds into the tree and only the output of its rows failed, the tree is the
     -- new one: the one refusal that leaves what the reply says that stands next
     pub unprinted : (w : World) → prints_after command ≡ true → given ≡ status.WriteFault
@@ -117,11 +116,11 @@ module _ (Says : List ℕ → Type 0) (X : List ℕ → List ℕ) (N : List ℕ 
         → StaysNamed X N before.store.told now.store.told p es → TellsBlocks before.store.told held
         → AreHeights p rows → HasOutside (Ok command) outside before now
         → StaysQuiet (Ok command) given before now
-        → EndsOver X N before.store.told now.store.told p es (command_needs X N rows command p es) Says
-        (reply X N command (in_world p es held outside)) given before.held now.held
+        → EndsOver X N p es (command_needs X N rows command p es) (reply X N command (in_world p es held outside)) given
+        before now
     -- whatever the store shows and whatever fails: the kind, the line and the cause of the answer, the faults that it
     -- tells, what is printed, what is left, and the touches
-    pub answered : IsAnswered Says X N command given before now
+    pub answered : IsAnswered X N command given before now
     pub faults : TellsFaults given before now
     pub printed : IsPrinted X N command given before now
     pub left : LeavesRight X N command given before now
@@ -129,5 +128,5 @@ module _ (Says : List ℕ → Type 0) (X : List ℕ → List ℕ) (N : List ℕ 
 
   -- what became of words
   abbrev pub Runs : Result Command Refusal → Status → Around → Around → Type 0
-  Runs (Err why) given before now = RefusesWords Says why given before now
+  Runs (Err why) given before now = RefusesWords why given before now
   Runs (Ok command) given before now = RunsCommand command given before now

@@ -19,16 +19,15 @@ use Rattle.uf_store.specs.Contents.{Contents, held_at}
 use Rattle.uf_store.specs.Faults.{NoneIsBad, Shown}
 use Rattle.uf_store.specs.Keeping.{KeepsGood}
 use Rattle.uf_store.specs.Writing.{Wrote}
-use Rattle.uf_top.specs.Around.{Around}
+use Rattle.uf_top.specs.Around.{Around, Said}
 use Rattle.uf_tree.specs.Standing.{Standing}
 
--- Says holds of the line that went to `errors`
-module _ (Says : List ℕ → Type 0) (X : List ℕ → List ℕ) (N : List ℕ → ℕ) where
+module _ (X : List ℕ → List ℕ) (N : List ℕ → ℕ) where
   -- what `pull` did: how it ended, what was asked for and kept, and that the tree stands as before
   pub record RunsPull (cid : Cid) (given : Status) (before now : Around) : Type 0 where
     -- how the pull ended, which the status and the line report
     pub done : Result ℕ PullFault
-    pub tells : TellsTalk Says (pull_end done) given
+    pub tells : TellsTalk (Said before.errors now.errors) (pull_end done) given
     -- over a store and an input that tell, what is due was asked for and kept, and it ended so; a failure leaves a
     -- prefix
     pub pulls : (t : Contents) (bytes : List ℕ) → before.store.told ≡ Some t → before.left ≡ Some bytes
@@ -55,7 +54,7 @@ module _ (Says : List ℕ → Type 0) (X : List ℕ → List ℕ) (N : List ℕ 
   pub record RunsServe (given : Status) (before now : Around) : Type 0 where
     -- how the answering ended, which the status and the line report
     pub done : Result ℕ ServeFault
-    pub tells : TellsTalk Says (serve_end done) given
+    pub tells : TellsTalk (Said before.errors now.errors) (serve_end done) given
     -- over a store and an input that tell, a frame was written for each block that is asked for, and it ended as the
     -- lines do; a failure leaves a prefix
     pub frames : (t : Contents) (bytes : List ℕ) → before.store.told ≡ Some t → before.left ≡ Some bytes

@@ -32,8 +32,8 @@ use Rattle.uf_edits.specs.Edits.{IsBadAsked}
 use Rattle.uf_command.specs.Statuses.{ended, no_memory, status_of}
 use Rattle.uf_command.specs.declared.status.Status.TheVariants as status
 use Rattle.uf_top.specs.Answering.{Answers, DoesAnswer, LeavesNext}
-use Rattle.uf_top.specs.Around.{Around, CountsCanRise, HasOutside, RisesFor, StaysQuiet, TakesHost, UsesHost, is_input_read}
-use Rattle.uf_top.specs.Around.{is_output_write}
+use Rattle.uf_top.specs.Around.{Around, CountsCanRise, HasOutside, RisesFor, SameButErrors, StaysQuiet, TakesHost, UsesHost}
+use Rattle.uf_top.specs.Around.{is_input_read, is_output_write}
 use Rattle.uf_top.specs.Bounds.{ask_touches, command_touches}
 use Rattle.uf_top.specs.Causes.{HeadStays, IsBadIn, IsReady, KeepsHead, is_read, is_write}
 use Rattle.uf_top.specs.Endings.{AddsFor, FindsAll, IsTextOf, PrintsAt, PrintsPart, RuleOf}
@@ -142,7 +142,7 @@ module _ (X : List ℕ → List ℕ) (N : List ℕ → ℕ) where
   -- words were refused, and nothing was done
   pub record IsIdle (why : Refusal) (done : Result (Unit {0}) Refusal) (before now : Around) : Type 0 where
     pub refused : (done ≡ Err why) ⊎ (done ≡ Err no_memory)
-    pub same : now ≡ before
+    pub same : SameButErrors before now
 
   -- what became of words
   abbrev pub Serves : Result Command Refusal → Result (Unit {0}) Refusal → Around → Around → Type 0

@@ -14,7 +14,8 @@ ghost use Rattle.uf_tree.specs.Standing.{Standing};
 ghost use Rattle.uf_tree.specs.Tree.{Entries};
 ghost use Rattle.uf_tree.specs.Validity.{IsHash};
 ghost use Rattle.uf_tree.specs.declared.profile.Profile.{Profile};
-ghost use Rattle.uf_top.specs.Batch.{Batches, Ending, Scene, without_input};
+ghost use Rattle.uf_top.specs.Around.{Around};
+ghost use Rattle.uf_top.specs.Batch.{Batches, Ending, without_input};
 ghost use Rattle.uf_top.specs.BatchLines.{BeginsSafe, MovesByLine, PassesNoneOver, StopsAtFirst, StopsInLine};
 ghost use Rattle.uf_top.specs.BatchReplies.{BatchReplied, HasHeights, NothingFails, batch_bound, batch_printed};
 ghost use Rattle.uf_top.specs.BatchReplies.{lines_printed};
@@ -23,33 +24,31 @@ ghost use Rattle.uf_top.specs.Outcomes.{IsSafeFor};
 
 /// A batch keeps each good block, whatever its lines do and however it ends.
 pub fn a_batch_keeps_good_blocks()
-    ensures { (X : List ℕ → List ℕ) (N : List ℕ → ℕ) (most limit : ℕ) (given : TheStatus) (before now : Scene)
-        → Batches X N most limit given before now
-        → KeepsGood X before.around.store.told now.around.store.told }
+    ensures { (X : List ℕ → List ℕ) (N : List ℕ → ℕ) (most limit : ℕ) (given : TheStatus) (before now : Around)
+        → Batches X N most limit given before now → KeepsGood X before.store.told now.store.told }
 {}
 
 /// No line of a batch changes what the host tells.
 pub fn a_batch_leaves_the_host()
-    ensures { (X : List ℕ → List ℕ) (N : List ℕ → ℕ) (most limit : ℕ) (given : TheStatus) (before now : Scene)
-        → Batches X N most limit given before now
-        → now.around.host.told ≡ before.around.host.told }
+    ensures { (X : List ℕ → List ℕ) (N : List ℕ → ℕ) (most limit : ℕ) (given : TheStatus) (before now : Around)
+        → Batches X N most limit given before now → now.host.told ≡ before.host.told }
 {}
 
 /// The Head is as before a batch, or one of its lines, whose status says that it may have moved it, left it as it is.
 pub fn a_batch_moves_the_head_by_its_lines()
-    ensures { (X : List ℕ → List ℕ) (N : List ℕ → ℕ) (most limit : ℕ) (given : TheStatus) (before now : Scene)
+    ensures { (X : List ℕ → List ℕ) (N : List ℕ → ℕ) (most limit : ℕ) (given : TheStatus) (before now : Around)
         → (did : Batches X N most limit given before now)
-        → (head_in now.around.store.told ≡ head_in before.around.store.told)
-        ⊎ MovesByLine X N did.lines did.ending (without_input before) now.around.store.told }
+        → (head_in now.store.told ≡ head_in before.store.told)
+        ⊎ MovesByLine X N did.lines did.ending (without_input before) now.store.told }
 {}
 
 /// A batch passes no failure over: a call of the store that failed, a clash that was met, a failed reading of its
 /// input or of the host, and a failed writing are its status. One exception: a line that ends the batch keeps its
 /// status where that couldn't be printed.
 pub fn a_batch_passes_no_failure_over()
-    ensures { (X : List ℕ → List ℕ) (N : List ℕ → ℕ) (most limit : ℕ) (given : TheStatus) (before now : Scene)
+    ensures { (X : List ℕ → List ℕ) (N : List ℕ → ℕ) (most limit : ℕ) (given : TheStatus) (before now : Around)
         → (did : Batches X N most limit given before now)
-        → PassesNoneOver X N did.ending given before.around now.around }
+        → PassesNoneOver X N did.ending given before now }
 {}
 
 /// Over a store that stands for a tree (or has no Head, or one that isn't read), and a host that tells, a batch where
@@ -58,10 +57,10 @@ pub fn a_batch_passes_no_failure_over()
 /// The batch ends with its input, at a line with such a status, at what is too long, or is out of memory.
 pub fn a_batch_answers_line_by_line()
     ensures { (X : List ℕ → List ℕ) (N : List ℕ → ℕ) (host : HostTree) (most limit : ℕ) (given : TheStatus)
-        (before now : Scene) (standing : Standing)
+        (before now : Around) (standing : Standing)
         → (did : Batches X N most limit given before now)
-        → before.around.host.told ≡ Some host → TellsAs X N before.around.store.told standing
-        → NothingFails before.around now.around → Stood before.around.reads now.around.reads
+        → before.host.told ≡ Some host → TellsAs X N before.store.told standing → NothingFails before now
+        → Stood before.reads now.reads
         → BatchReplied X N host did.lines did.ending given standing (without_input before) did.between
         (without_input now) }
 {}
@@ -70,10 +69,9 @@ pub fn a_batch_answers_line_by_line()
 /// word the text of its reply and its status, in order, and nothing else.
 pub fn a_batch_prints_its_replies()
     ensures { (X : List ℕ → List ℕ) (N : List ℕ → ℕ) (host : HostTree) (lines : List (List ℕ))
-        (ending : Ending X N) (given : TheStatus) (standing : Standing) (before between now : Scene)
+        (ending : Ending X N) (given : TheStatus) (standing : Standing) (before between now : Around)
         → (did : BatchReplied X N host lines ending given standing before between now) → given ≢ status.Memory
-        → now.around.held
-        ≡ after before.around.held (batch_printed X N host lines ending given standing before between now did) }
+        → now.held ≡ after before.held (batch_printed X N host lines ending given standing before between now did) }
 {}
 
 /// Whatever becomes of the output of a batch: over a store that stands for a tree (or has no Head, or one that isn't
@@ -82,15 +80,15 @@ pub fn a_batch_prints_its_replies()
 /// the last line the output has got a prefix of the reply's text and status, unless the batch is out of memory.
 pub fn a_batch_prints_until_its_output_fails()
     ensures until { (X : List ℕ → List ℕ) (N : List ℕ → ℕ) (host : HostTree) (most limit : ℕ) (given : TheStatus)
-        (before now : Scene) (standing : Standing)
+        (before now : Around) (standing : Standing)
         → (did : Batches X N most limit given before now)
-        → before.around.host.told ≡ Some host → TellsAs X N before.around.store.told standing
-        → FailsAtMostPrinting before.around now.around → CanRise before.around.writes → given ≢ status.Memory
+        → before.host.told ≡ Some host → TellsAs X N before.store.told standing
+        → FailsAtMostPrinting before now → CanRise before.writes → given ≢ status.Memory
         → PrintsUntil X N host did.lines did.ending standing (without_input before) did.between (without_input now) }
     ensures lines { (X : List ℕ → List ℕ) (N : List ℕ → ℕ) (host : HostTree) (lines : List (List ℕ))
-        (ending : Ending X N) (standing : Standing) (before between now : Scene)
-        → (did : PrintsUntil X N host lines ending standing before between now) → between.around.held
-        ≡ after before.around.held (lines_printed X N host lines standing did.stood before between did.each) }
+        (ending : Ending X N) (standing : Standing) (before between now : Around)
+        → (did : PrintsUntil X N host lines ending standing before between now)
+        → between.held ≡ after before.held (lines_printed X N host lines standing did.stood before between did.each) }
 {}
 
 /// Where a batch whose lines are answered so doesn't end for out of memory, `errors` has got of each line that has a
@@ -98,7 +96,7 @@ pub fn a_batch_prints_until_its_output_fails()
 /// whole, or in part where writing it failed.
 pub fn a_batch_reports_its_refusals()
     ensures { (X : List ℕ → List ℕ) (N : List ℕ → ℕ) (host : HostTree) (lines : List (List ℕ))
-        (ending : Ending X N) (given : TheStatus) (standing : Standing) (before between now : Scene)
+        (ending : Ending X N) (given : TheStatus) (standing : Standing) (before between now : Around)
         → (did : BatchReplied X N host lines ending given standing before between now) → given ≢ status.Memory
         → SaidInTurn (batch_said X N host lines ending given standing before between now did) before.errors
         now.errors }
@@ -109,10 +107,10 @@ pub fn a_batch_reports_its_refusals()
 pub fn a_batch_keeps_within_the_sum_of_its_bounds()
     ensures { (X : List ℕ → List ℕ) (N : List ℕ → ℕ) (host : HostTree) (rows : Profile → ℕ → ℕ)
         (lines : List (List ℕ)) (ending : Ending X N) (given : TheStatus) (standing : Standing)
-        (before between now : Scene)
+        (before between now : Around)
         → HasHeights rows → (did : BatchReplied X N host lines ending given standing before between now)
         → IfSome (batch_bound X N host rows lines ending given standing before between now did)
-        (λ most. now.around.touches ≤ before.around.touches + most) }
+        (λ most. now.touches ≤ before.touches + most) }
 {}
 
 /// Where a batch begins over contents that are safe for a tree, the host tells, and no count is at its last value,
@@ -121,17 +119,17 @@ pub fn a_batch_keeps_within_the_sum_of_its_bounds()
 /// for the tree for which it then stands.
 pub fn a_stop_of_a_batch_leaves_the_tree_before_or_after_a_line()
     ensures stops { (X : List ℕ → List ℕ) (N : List ℕ → ℕ) (host : HostTree) (most limit : ℕ) (given : TheStatus)
-        (before now : Scene) (a b : Contents) (p : Profile) (es : Entries)
+        (before now : Around) (a b : Contents) (p : Profile) (es : Entries)
         → IsHash X → ((name : List ℕ) → N name < 2 ^ 64)
         → (did : Batches X N most limit given before now)
-        → BeginsSafe X N host before a p es → now.around.store.told ≡ Some b
+        → BeginsSafe X N host before a p es → now.store.told ≡ Some b
         → (done rest : List TheWrite) → b.writes ≡ a.writes ++ done ++ rest
         → StopsAtFirst X N a p es (a.writes ++ done)
         ⊎ StopsInLine X N did.lines did.ending (without_input before) (a.writes ++ done) }
     ensures safe { (X : List ℕ → List ℕ) (N : List ℕ → ℕ) (host : HostTree) (most limit : ℕ) (given : TheStatus)
-        (before now : Scene) (a b : Contents) (p : Profile) (es : Entries)
+        (before now : Around) (a b : Contents) (p : Profile) (es : Entries)
         → IsHash X → ((name : List ℕ) → N name < 2 ^ 64)
         → (did : Batches X N most limit given before now)
-        → BeginsSafe X N host before a p es → now.around.store.told ≡ Some b
+        → BeginsSafe X N host before a p es → now.store.told ≡ Some b
         → (q : Profile) × (fs : Entries) × IsSafeFor X N b q fs }
 {}

@@ -15,7 +15,7 @@ ghost use Rattle.uf_command.specs.Requests.{request_in};
 ghost use Rattle.uf_command.specs.declared.requests.Request.TheVariants as requests;
 ghost use Rattle.uf_command.specs.declared.types.Command.{Command as TheCommand};
 ghost use Rattle.uf_command.specs.declared.types.Refusal.{Refusal as TheRefusal};
-ghost use Rattle.uf_top.specs.Lent.{SaidTo, around_at, scene_at};
+ghost use Rattle.uf_top.specs.Lent.{OverAll, lent};
 ghost use Rattle.uf_top.specs.Batch.{Batches};
 ghost use Rattle.uf_top.specs.Checking.{RunsCheck};
 ghost use Rattle.uf_top.specs.Collecting.{RunsGc};
@@ -72,43 +72,41 @@ pub fn run<S: Sweep, N: NameHash, W: Host, I: Source, O: Sink, E: Sink, L: Ledge
     // its own.
     ensures runs { (asked : TheResult TheCommand TheRefusal)
         → request_in (map string_bytes words.now) ≡ requests.One asked
-        → Runs (SaidTo E.Sink errors.old errors.new) S.X.block32 N.name64 asked result
-        (around_at I.Source O.Sink W.Host (S.seen store.old) input.old output.old touches.old host.old)
-        (around_at I.Source O.Sink W.Host (S.seen store.new) input.new output.new touches.new host.new) }
+        → Runs S.X.block32 N.name64 asked result
+        (lent I.Source O.Sink W.Host E.Sink (S.seen store.old) input.old output.old touches.old host.old errors.old)
+        (lent I.Source O.Sink W.Host E.Sink (S.seen store.new) input.new output.new touches.new host.new errors.new) }
 
     // Of `batch`: every line that has a word did what was said of a command, one after the other.
     ensures batch { request_in (map string_bytes words.now) ≡ requests.Batch
         → Batches S.X.block32 N.name64 MOST_OF_LINE MOST_OF_BATCH result
-        (scene_at I.Source O.Sink W.Host E.Sink (S.seen store.old) input.old output.old touches.old host.old
-        errors.old)
-        (scene_at I.Source O.Sink W.Host E.Sink (S.seen store.new) input.new output.new touches.new host.new
-        errors.new) }
+        (lent I.Source O.Sink W.Host E.Sink (S.seen store.old) input.old output.old touches.old host.old errors.old)
+        (lent I.Source O.Sink W.Host E.Sink (S.seen store.new) input.new output.new touches.new host.new errors.new) }
 
     // Of `pull`: what is due over the peer's bytes was asked for and kept, and the tree stands as before.
     ensures pull { (cid : TheCid) → request_in (map string_bytes words.now) ≡ requests.Pull cid
-        → RunsPull (SaidTo E.Sink errors.old errors.new) S.X.block32 N.name64 cid result
-        (around_at I.Source O.Sink W.Host (S.seen store.old) input.old output.old touches.old host.old)
-        (around_at I.Source O.Sink W.Host (S.seen store.new) input.new output.new touches.new host.new) }
+        → RunsPull S.X.block32 N.name64 cid result
+        (lent I.Source O.Sink W.Host E.Sink (S.seen store.old) input.old output.old touches.old host.old errors.old)
+        (lent I.Source O.Sink W.Host E.Sink (S.seen store.new) input.new output.new touches.new host.new errors.new) }
 
     // Of `serve`: each line of the peer that asks for a block was answered by one frame, and nothing was kept.
     ensures serve { request_in (map string_bytes words.now) ≡ requests.Serve
-        → RunsServe (SaidTo E.Sink errors.old errors.new) S.X.block32 N.name64 result
-        (around_at I.Source O.Sink W.Host (S.seen store.old) input.old output.old touches.old host.old)
-        (around_at I.Source O.Sink W.Host (S.seen store.new) input.new output.new touches.new host.new) }
+        → RunsServe S.X.block32 N.name64 result
+        (lent I.Source O.Sink W.Host E.Sink (S.seen store.old) input.old output.old touches.old host.old errors.old)
+        (lent I.Source O.Sink W.Host E.Sink (S.seen store.new) input.new output.new touches.new host.new errors.new) }
 
     // Of `repo gc`: what neither the Head's root nor a pin leads to went; what they lead to stays, whatever failed.
     ensures collect { request_in (map string_bytes words.now) ≡ requests.Gc
-        → RunsGc (SaidTo E.Sink errors.old errors.new) S.X.block32 N.name64 result
-        (around_at I.Source O.Sink W.Host (S.seen store.old) input.old output.old touches.old host.old)
-        (around_at I.Source O.Sink W.Host (S.seen store.new) input.new output.new touches.new host.new) }
+        → RunsGc S.X.block32 N.name64 result
+        (lent I.Source O.Sink W.Host E.Sink (S.seen store.old) input.old output.old touches.old host.old errors.old)
+        (lent I.Source O.Sink W.Host E.Sink (S.seen store.new) input.new output.new touches.new host.new errors.new) }
 
     // Of `check`: the input was read as the proof of what is at a path below a root, and that was written; the store
     // is as before.
     ensures check { (absent : Bool) (cid : TheCid) (path : ThePath)
         → request_in (map string_bytes words.now) ≡ requests.Check absent cid path
-        → RunsCheck (SaidTo E.Sink errors.old errors.new) S.X.block32 N.name64 absent cid path.names result
-        (around_at I.Source O.Sink W.Host (S.seen store.old) input.old output.old touches.old host.old)
-        (around_at I.Source O.Sink W.Host (S.seen store.new) input.new output.new touches.new host.new) }
+        → RunsCheck S.X.block32 N.name64 absent cid path.names result
+        (lent I.Source O.Sink W.Host E.Sink (S.seen store.old) input.old output.old touches.old host.old errors.old)
+        (lent I.Source O.Sink W.Host E.Sink (S.seen store.new) input.new output.new touches.new host.new errors.new) }
 
     // Equal roots mean equal trees: what the store tells stands for one tree at most.
     ensures one { (standing other : Standing) → TellsAs S.X.block32 N.name64 (S.seen store.new).told standing
@@ -171,9 +169,9 @@ fn serve<S: Store, N: NameHash, W: Host, I: Source, O: Sink, L: Ledger>(
 ) -> Result<(), Refusal>
     requires { IfOk asked IsAccepted }
     ensures serves { (told : TheResult TheCommand TheRefusal) → IsAsked asked told
-        → Serves S.X.block32 N.name64 told result
-        (around_at I.Source O.Sink W.Host (S.seen store.old) input.old output.old touches.old host.old)
-        (around_at I.Source O.Sink W.Host (S.seen store.new) input.new output.new touches.new host.new) }
+        → OverAll I.Source O.Sink W.Host (Serves S.X.block32 N.name64 told result)
+        (S.seen store.old) input.old output.old touches.old host.old
+        (S.seen store.new) input.new output.new touches.new host.new }
     ensures own { (told : TheResult TheCommand TheRefusal) → IsAsked asked told → IsOfWords told
         → IfErr result (ByOwnStore S.X.block32 (of_command own_store NoStore told) (I.left input.old)
         (S.seen store.old) (S.seen store.new)) }
@@ -197,9 +195,9 @@ pub fn work<S: Store, N: NameHash, W: Host, I: Source, O: Sink, L: Ledger>(
     touches: &mut Steps<L>,
 ) -> Result<(), Refusal>
     requires { IsAccepted command.now }
-    ensures does { Does S.X.block32 N.name64 command.now result
-        (around_at I.Source O.Sink W.Host (S.seen store.old) input.old output.old touches.old host.old)
-        (around_at I.Source O.Sink W.Host (S.seen store.new) input.new output.new touches.new host.new) }
+    ensures does { OverAll I.Source O.Sink W.Host (Does S.X.block32 N.name64 command.now result)
+        (S.seen store.old) input.old output.old touches.old host.old
+        (S.seen store.new) input.new output.new touches.new host.new }
     ensures own { IfErr result (ByOwnStore S.X.block32 (own_store command.now) (I.left input.old)
         (S.seen store.old) (S.seen store.new)) }
     ensures kinds { IsOf (may_end command.now) result }
@@ -221,9 +219,9 @@ fn carry_out<S: Store, N: NameHash, W: Host, I: Source, O: Sink, L: Ledger>(
     touches: &mut Steps<L>,
 ) -> Result<(), Refusal>
     requires { IsAccepted command.now }
-    ensures does { Does S.X.block32 N.name64 command.now result
-        (around_at I.Source O.Sink W.Host (S.seen store.old) input.old output.old touches.old host.old)
-        (around_at I.Source O.Sink W.Host (S.seen store.new) input.new output.new touches.new host.new) }
+    ensures does { OverAll I.Source O.Sink W.Host (Does S.X.block32 N.name64 command.now result)
+        (S.seen store.old) input.old output.old touches.old host.old
+        (S.seen store.new) input.new output.new touches.new host.new }
     ensures own { IfErr result (ByOwnStore S.X.block32 (own_store command.now) (I.left input.old)
         (S.seen store.old) (S.seen store.new)) }
     ensures spares { Spares (Ok command.now) store.old store.new input.old input.new host.old host.new touches.old

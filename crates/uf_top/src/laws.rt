@@ -22,8 +22,7 @@ ghost use Rattle.uf_command.specs.declared.types.Command.TheVariants as commands
 ghost use Rattle.uf_command.specs.declared.types.Adding.TheVariants as adding;
 ghost use Rattle.uf_command.specs.declared.types.Refusal.{Refusal};
 ghost use Rattle.uf_top.specs.Added.{EachHolds, KeepsHosted, KeepsInput};
-ghost use Rattle.uf_top.specs.Around.{CountsCanRise};
-ghost use Rattle.uf_top.specs.Batch.{Said, Scene};
+ghost use Rattle.uf_top.specs.Around.{Around, CountsCanRise};
 ghost use Rattle.uf_top.specs.Collecting.{EachSweepOutcome, kept_in};
 ghost use Rattle.uf_top.specs.Naming.{StaysNamed};
 ghost use Rattle.uf_top.specs.Outcomes.{EachOutcome, EachStop, IsSafeFor, LeavesEither, LeavesNoneOr, LeavesTree};
@@ -86,27 +85,23 @@ pub fn a_stop_of_init_leaves_no_head_or_its_tree()
 /// Where a store tells what was written, whatever its Head, each block of what an `add` that was done says in its rows
 /// is held whatever a stop leaves. These are the blocks of the file of its input, and of the tree that the host has.
 pub fn a_stop_after_add_leaves_its_blocks()
-    ensures input { (X : List ℕ → List ℕ) (N : List ℕ → ℕ) (before now : Scene) (a b : Contents)
-        → Runs (Said before.errors now.errors) X N (Ok (commands.Add (adding.Input false)))
-        status.Ok before.around now.around
-        → before.around.store.told ≡ Some a → now.around.store.told ≡ Some b → IsPlain a
-        → KeepsInput X before.around now.around a b }
-    ensures host { (X : List ℕ → List ℕ) (N : List ℕ → ℕ) (recursive : Bool) (path : List ℕ) (before now : Scene)
-        (a b : Contents) → Runs (Said before.errors now.errors) X N
-        (Ok (commands.Add (adding.Host recursive false path)))
-        status.Ok before.around now.around
-        → before.around.store.told ≡ Some a → now.around.store.told ≡ Some b → IsPlain a
-        → KeepsHosted X N recursive path before.around now.around a b }
+    ensures input { (X : List ℕ → List ℕ) (N : List ℕ → ℕ) (before now : Around) (a b : Contents)
+        → Runs X N (Ok (commands.Add (adding.Input false))) status.Ok before now
+        → before.store.told ≡ Some a → now.store.told ≡ Some b → IsPlain a → KeepsInput X before now a b }
+    ensures host { (X : List ℕ → List ℕ) (N : List ℕ → ℕ) (recursive : Bool) (path : List ℕ) (before now : Around)
+        (a b : Contents) → Runs X N (Ok (commands.Add (adding.Host recursive false path))) status.Ok before now
+        → before.store.told ≡ Some a → now.store.told ≡ Some b → IsPlain a
+        → KeepsHosted X N recursive path before now a b }
 {}
 
 /// Where a store tells what was written, whatever its Head, each block of the sections of a CAR that `dag import` has
 /// read to its end is held whatever a stop leaves. No count may be at its last value.
 pub fn a_stop_after_an_import_leaves_its_blocks()
-    ensures { (X : List ℕ → List ℕ) (N : List ℕ → ℕ) (before now : Scene) (a b : Contents) (bytes : List ℕ)
-        → Runs (Said before.errors now.errors) X N (Ok commands.Import) status.Ok before.around now.around
-        → before.around.store.told ≡ Some a → now.around.store.told ≡ Some b → IsPlain a
-        → before.around.left ≡ Some bytes → CountsCanRise before.around.store → CanRise before.around.reads
-        → CanRise before.around.writes → EachHolds (car_read X most_car bytes).sections b.writes }
+    ensures { (X : List ℕ → List ℕ) (N : List ℕ → ℕ) (before now : Around) (a b : Contents) (bytes : List ℕ)
+        → Runs X N (Ok commands.Import) status.Ok before now
+        → before.store.told ≡ Some a → now.store.told ≡ Some b → IsPlain a → before.left ≡ Some bytes
+        → CountsCanRise before.store → CanRise before.reads → CanRise before.writes
+        → EachHolds (car_read X most_car bytes).sections b.writes }
 {}
 
 /// Where a store is safe for a tree, each stop in the course of a collection's sweep, which keeps what the notes lead

@@ -1,13 +1,11 @@
 //! `add`: the input as a file.
 ghost use Rattle.std.specs.Prelude.{◌≡◌, ◌<◌, List, ℕ, false, true, None, IfOk, IfSome, IsTrue, OnErr, OnOk};
 ghost use Rattle.uf_edge.specs.Counts.{Counts};
-ghost use Rattle.uf_edge.specs.Streams.{Told};
 ghost use Rattle.uf_mfs.specs.Standing.{LeavesHead};
 ghost use Rattle.uf_store.specs.Contents.{changed, with_sync};
 ghost use Rattle.uf_store.specs.Keeping.{KeepsGood};
 ghost use Rattle.uf_tree.specs.Profiles.{is_profile};
 ghost use Rattle.uf_command.specs.Natures.{SyncsBlocks};
-ghost use Rattle.uf_top.specs.Around.{HostSide, around};
 ghost use Rattle.uf_top.specs.Causes.{IsProfileRead, OnlyWants, ReadsProfile, Stops, is_read, or_usual as usual_or};
 ghost use Rattle.uf_top.specs.Intake.{GivesEntry, IsRowOf, ShownIn};
 ghost use Rattle.uf_top.specs.Lent.{OverInput};
@@ -50,10 +48,9 @@ pub fn add_only_hash<S: Store, I: Source>(
     store: &mut S,
     input: &mut I,
 ) -> Result<Block, Refusal>
-    ensures { (N : List ℕ → ℕ) (held : Told) (writes touches : ℕ) (host : HostSide)
-        → Makes S.X.block32 N (commands.Add (adding.Input true)) result
-        (around (S.seen store.old) (I.left input.old) (I.faults input.old) held writes touches host)
-        (around (S.seen store.new) (I.left input.new) (I.faults input.new) held writes touches host) }
+    ensures { (N : List ℕ → ℕ) (touches : ℕ) → OverInput I.Source
+        (Makes S.X.block32 N (commands.Add (adding.Input true)) result)
+        (S.seen store.old) input.old touches (S.seen store.new) input.new touches }
 {
     let found = head_profile(alloc, store)?;
     hash_by::<S::X, I>(alloc, or_usual(found), input)

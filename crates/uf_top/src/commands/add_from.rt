@@ -1,12 +1,11 @@
 //! `add` of a path of the host: its files and folders.
 ghost use Rattle.std.specs.Prelude.{◌≡◌, ℕ, false, true, None, IfErr, IfOk, IsTrue};
 ghost use Rattle.std.specs.List.{flat_map};
-ghost use Rattle.uf_edge.specs.Streams.{Told};
 ghost use Rattle.uf_command.specs.Natures.{SyncsBlocks};
 ghost use Rattle.uf_command.specs.declared.types.Command.TheVariants as commands;
 ghost use Rattle.uf_command.specs.declared.types.Adding.TheVariants as adding;
 ghost use Rattle.uf_store.specs.Keeping.{KeepsGood};
-ghost use Rattle.uf_top.specs.Around.{OnlyReadsHost, around};
+ghost use Rattle.uf_top.specs.Around.{OnlyReadsHost};
 ghost use Rattle.uf_top.specs.Lent.{OverHost, side_at};
 ghost use Rattle.uf_top.specs.Causes.{OnlyWants, is_read};
 ghost use Rattle.uf_top.specs.Hosted.{IsNoReading, MakesHostText};
@@ -59,10 +58,9 @@ pub fn hash_from<S: Store, N: NameHash, W: Host>(
     store: &mut S,
     host: &mut W,
 ) -> Result<Block, Refusal>
-    ensures { (left : Told) (reads : ℕ) (held : Told) (writes : ℕ) (touches : ℕ) → Makes S.X.block32 N.name64
-        (commands.Add (adding.Host recursive true path.now)) result
-        (around (S.seen store.old) left reads held writes touches (side_at W.Host host.old))
-        (around (S.seen store.new) left reads held writes touches (side_at W.Host host.new)) }
+    ensures { (touches : ℕ) → OverHost W.Host (Makes S.X.block32 N.name64
+        (commands.Add (adding.Host recursive true path.now)) result)
+        (S.seen store.old) touches host.old (S.seen store.new) touches host.new }
 {
     let found = head_profile(alloc, store)?;
     hash_by::<S::X, N, W>(alloc, or_usual(found), recursive, path, host)

@@ -1,7 +1,7 @@
 //! `batch`: the commands that the lines of an input ask for.
 ghost use Rattle.std.specs.Prelude.{◌<◌, [], length, None, Some};
 ghost use Rattle.uf_command.specs.Batches.{line_in};
-ghost use Rattle.uf_top.specs.Lent.{around_line, line_at, scene_at, sink_at};
+ghost use Rattle.uf_top.specs.Lent.{OverLine, lent, lent_line, sink_at};
 ghost use Rattle.uf_top.specs.Batch.{Batches, ClosesLine, DoesLine, LineServed};
 
 use crate::command::work;
@@ -53,10 +53,8 @@ pub fn batch<S: Store, N: NameHash, W: Host, I: Source, O: Sink, E: Sink, L: Led
     touches: &mut Steps<L>,
 ) -> Status
     ensures { Batches S.X.block32 N.name64 MOST_OF_LINE limit result
-        (scene_at I.Source O.Sink W.Host E.Sink (S.seen store.old) input.old output.old touches.old host.old
-        errors.old)
-        (scene_at I.Source O.Sink W.Host E.Sink (S.seen store.new) input.new output.new touches.new host.new
-        errors.new) }
+        (lent I.Source O.Sink W.Host E.Sink (S.seen store.old) input.old output.old touches.old host.old errors.old)
+        (lent I.Source O.Sink W.Host E.Sink (S.seen store.new) input.new output.new touches.new host.new errors.new) }
 {
     let mut lines = Lines::new(alloc, MOST_OF_LINE, limit);
     'rest: loop {
@@ -87,8 +85,8 @@ fn do_line<S: Store, N: NameHash, W: Host, O: Sink, E: Sink, L: Ledger>(
     touches: &mut Steps<L>,
 ) -> Option<Status>
     ensures { DoesLine S.X.block32 N.name64 line.now result
-        (line_at O.Sink W.Host E.Sink (S.seen store.old) output.old touches.old host.old errors.old)
-        (line_at O.Sink W.Host E.Sink (S.seen store.new) output.new touches.new host.new errors.new) }
+        (lent_line O.Sink W.Host E.Sink (S.seen store.old) output.old touches.old host.old errors.old)
+        (lent_line O.Sink W.Host E.Sink (S.seen store.new) output.new touches.new host.new errors.new) }
 {
     match serve_line::<S, N, W, O, L>(alloc, line, store, host, output, touches) {
         None => None,
@@ -105,9 +103,8 @@ fn serve_line<S: Store, N: NameHash, W: Host, O: Sink, L: Ledger>(
     output: &mut O,
     touches: &mut Steps<L>,
 ) -> Option<Result<(), Refusal>>
-    ensures { LineServed S.X.block32 N.name64 (line_in line.now) result
-        (around_line O.Sink W.Host (S.seen store.old) output.old touches.old host.old)
-        (around_line O.Sink W.Host (S.seen store.new) output.new touches.new host.new) }
+    ensures { OverLine O.Sink W.Host (LineServed S.X.block32 N.name64 (line_in line.now) result)
+        (S.seen store.old) output.old touches.old host.old (S.seen store.new) output.new touches.new host.new }
 {
     match read_line(alloc, line) {
         None => None,

@@ -5,8 +5,8 @@ ghost use Rattle.uf_edits.specs.Generated.{IsGenerated};
 ghost use Rattle.uf_store.specs.Seen.{Seen as TheSeen};
 ghost use Rattle.uf_command.specs.Natures.{OfTree};
 ghost use Rattle.uf_command.specs.declared.types.Command.TheVariants as commands;
-ghost use Rattle.uf_top.specs.Around.{HostSide, around};
 ghost use Rattle.uf_top.specs.Cars.{ByOwnStore};
+ghost use Rattle.uf_top.specs.Lent.{OverOutput};
 ghost use Rattle.uf_top.specs.Working.{Does};
 
 use std::alloc::Global;
@@ -29,10 +29,9 @@ pub fn print_generated<X: BlockHash, N: NameHash, O: Sink>(
     output: &mut O,
 ) -> Result<(), Refusal>
     requires { n ≤ 20000 }
-    ensures does { (seen : TheSeen) (left : Left) (reads touches : ℕ) (side : HostSide)
-        → Does X.block32 N.name64 (commands.Gen n seed) result
-        (around seen left reads (O.holds output.old) (O.faults output.old) touches side)
-        (around seen left reads (O.holds output.new) (O.faults output.new) touches side) }
+    ensures does { (seen : TheSeen) (touches : ℕ)
+        → OverOutput O.Sink (Does X.block32 N.name64 (commands.Gen n seed) result) seen output.old touches
+        seen output.new touches }
     ensures own { (seen : TheSeen) (left : Left) → IfErr result (ByOwnStore X.block32 OfTree left seen seen) }
 {
     let text = counted::<X, N, Brand>(alloc, n, seed, Blank::new(1))?;

@@ -1,6 +1,6 @@
 //! `pull` and `serve`: talks with a peer over the input and the output.
 ghost use Rattle.std.specs.Prelude.{List, ℕ};
-ghost use Rattle.uf_top.specs.Lent.{OverStreams, SaidTo};
+ghost use Rattle.uf_top.specs.Lent.{OverTalk};
 ghost use Rattle.uf_top.specs.Talking.{RunsPull, RunsServe};
 
 use std::alloc::Global;
@@ -27,9 +27,9 @@ pub fn pull_from<S: Store, I: Source, O: Sink, E: Sink, L: Ledger>(
     errors: &mut E,
     touches: &mut Steps<L>,
 ) -> Status
-    ensures { (N : List ℕ → ℕ) → OverStreams I.Source O.Sink
-        (RunsPull (SaidTo E.Sink errors.old errors.new) S.X.block32 N cid.now result)
-        (S.seen store.old) input.old output.old touches.old (S.seen store.new) input.new output.new touches.new }
+    ensures { (N : List ℕ → ℕ) → OverTalk I.Source O.Sink E.Sink (RunsPull S.X.block32 N cid.now result)
+        (S.seen store.old) input.old output.old errors.old touches.old
+        (S.seen store.new) input.new output.new errors.new touches.new }
 {
     let done = pull(alloc, store, cid, MOST_PULLED, input, output, touches);
     tell_talk(alloc, pull_end(done), errors)
@@ -44,9 +44,9 @@ pub fn serve_wants<S: Store, I: Source, O: Sink, E: Sink, L: Ledger>(
     errors: &mut E,
     touches: &mut Steps<L>,
 ) -> Status
-    ensures { (N : List ℕ → ℕ) → OverStreams I.Source O.Sink
-        (RunsServe (SaidTo E.Sink errors.old errors.new) S.X.block32 N result)
-        (S.seen store.old) input.old output.old touches.old (S.seen store.new) input.new output.new touches.new }
+    ensures { (N : List ℕ → ℕ) → OverTalk I.Source O.Sink E.Sink (RunsServe S.X.block32 N result)
+        (S.seen store.old) input.old output.old errors.old touches.old
+        (S.seen store.new) input.new output.new errors.new touches.new }
 {
     let done = serve(alloc, store, MOST_OF_WANTS, input, output, touches);
     tell_talk(alloc, serve_end(done), errors)

@@ -9,7 +9,6 @@ use Rattle.uf_command.specs.declared.types.Command.{Command}
 use Rattle.uf_command.specs.declared.types.Refusal.{Refusal}
 use Rattle.uf_command.proofs.Asked.{IsOfWordsAlone, words-only}
 use Rattle.uf_top.specs.Around.{around, host_side}
-use Rattle.uf_command.specs.Telling.{IsSent}
 use Rattle.uf_top.specs.Talking.{RunsPull}
 use Rattle.uf_top.proofs.Checked.{check-wants, checked-as}
 use Rattle.uf_top.proofs.Collected.{gc-runs, gc-wants}
@@ -31,19 +30,18 @@ pub returns-in-One-clause-runs : goal.returns-in-One-clause-runs
 returns-in-One-clause-runs g c = λ asked is.
     let h : IsAsked c.in-One.asked asked = read-alone (map string_bytes c.args.words.now) c.in-One.asked asked is c.in-One.ensures.asked in
     let w : IsOfWords asked = of-words (map string_bytes c.args.words.now) asked is in
-    runs-told (λ line. IsSent line (g.E.Sink.holds c.args.errors.now) (g.E.Sink.holds c.tell_end.new.errors) (g.E.Sink.faults c.args.errors.now) (g.E.Sink.faults c.tell_end.new.errors)) c.tell_end.result g.S.X.BlockHash.block32 g.N.NameHash.name64
-    (around (g.S.Store.seen c.args.store.now) (g.I.Source.left c.args.input.now) (g.I.Source.faults c.args.input.now) (g.O.Sink.holds c.args.output.now) (g.O.Sink.faults c.args.output.now) c.args.touches.now (host_side (g.W.Host.tree c.args.host.now) (g.W.Host.read_faults c.args.host.now) (g.W.Host.write_faults c.args.host.now)))
-    (around (g.S.Store.seen c.serve-done.new.store) (g.I.Source.left c.serve-done.new.input) (g.I.Source.faults c.serve-done.new.input) (g.O.Sink.holds c.serve-done.new.output) (g.O.Sink.faults c.serve-done.new.output) c.serve-done.new.touches (host_side (g.W.Host.tree c.serve-done.new.host) (g.W.Host.read_faults c.serve-done.new.host) (g.W.Host.write_faults c.serve-done.new.host)))
-    asked c.serve-done.result w (c.serve-done.ensures.serves asked h) (c.serve-done.ensures.own asked h w) (c.serve-done.ensures.kinds asked h) c.tell_end.ensures
+    runs-told c.tell_end.result g.S.X.BlockHash.block32 g.N.NameHash.name64
+    (around (g.S.Store.seen c.args.store.now) (g.I.Source.left c.args.input.now) (g.I.Source.faults c.args.input.now) (g.O.Sink.holds c.args.output.now) (g.O.Sink.faults c.args.output.now) c.args.touches.now (host_side (g.W.Host.tree c.args.host.now) (g.W.Host.read_faults c.args.host.now) (g.W.Host.write_faults c.args.host.now)) (record { held = g.E.Sink.holds c.args.errors.now; faults = g.E.Sink.faults c.args.errors.now }))
+    (around (g.S.Store.seen c.serve-done.new.store) (g.I.Source.left c.serve-done.new.input) (g.I.Source.faults c.serve-done.new.input) (g.O.Sink.holds c.serve-done.new.output) (g.O.Sink.faults c.serve-done.new.output) c.serve-done.new.touches (host_side (g.W.Host.tree c.serve-done.new.host) (g.W.Host.read_faults c.serve-done.new.host) (g.W.Host.write_faults c.serve-done.new.host)) (record { held = g.E.Sink.holds c.tell_end.new.errors; faults = g.E.Sink.faults c.tell_end.new.errors }))
+    asked c.serve-done.result w (c.serve-done.ensures.serves asked h (record { held = g.E.Sink.holds c.args.errors.now; faults = g.E.Sink.faults c.args.errors.now }) (record { held = g.E.Sink.holds c.tell_end.new.errors; faults = g.E.Sink.faults c.tell_end.new.errors })) (c.serve-done.ensures.own asked h w) (c.serve-done.ensures.kinds asked h) c.tell_end.ensures
 
 pub returns-in-One-clause-batch : goal.returns-in-One-clause-batch
 returns-in-One-clause-batch g c = λ is.
     let m : c.in-One.asked ≡ Err no_memory = subst (IsAskedAlone c.in-One.asked) is c.in-One.ensures.asked in
     batch-wants g.S.X.BlockHash.block32 g.N.NameHash.name64 1048576 1073741824 c.tell_end.result c.serve-done.result
-    (around (g.S.Store.seen c.args.store.now) (g.I.Source.left c.args.input.now) (g.I.Source.faults c.args.input.now) (g.O.Sink.holds c.args.output.now) (g.O.Sink.faults c.args.output.now) c.args.touches.now (host_side (g.W.Host.tree c.args.host.now) (g.W.Host.read_faults c.args.host.now) (g.W.Host.write_faults c.args.host.now)))
-    (around (g.S.Store.seen c.serve-done.new.store) (g.I.Source.left c.serve-done.new.input) (g.I.Source.faults c.serve-done.new.input) (g.O.Sink.holds c.serve-done.new.output) (g.O.Sink.faults c.serve-done.new.output) c.serve-done.new.touches (host_side (g.W.Host.tree c.serve-done.new.host) (g.W.Host.read_faults c.serve-done.new.host) (g.W.Host.write_faults c.serve-done.new.host)))
-    (record { held = g.E.Sink.holds c.args.errors.now; faults = g.E.Sink.faults c.args.errors.now }) (record { held = g.E.Sink.holds c.tell_end.new.errors; faults = g.E.Sink.faults c.tell_end.new.errors })
-    (c.serve-done.ensures.serves (Err no_memory) (subst (λ asked. IsAsked asked (Err no_memory)) (sym m) (inl refl))) c.tell_end.ensures
+    (around (g.S.Store.seen c.args.store.now) (g.I.Source.left c.args.input.now) (g.I.Source.faults c.args.input.now) (g.O.Sink.holds c.args.output.now) (g.O.Sink.faults c.args.output.now) c.args.touches.now (host_side (g.W.Host.tree c.args.host.now) (g.W.Host.read_faults c.args.host.now) (g.W.Host.write_faults c.args.host.now)) (record { held = g.E.Sink.holds c.args.errors.now; faults = g.E.Sink.faults c.args.errors.now }))
+    (around (g.S.Store.seen c.serve-done.new.store) (g.I.Source.left c.serve-done.new.input) (g.I.Source.faults c.serve-done.new.input) (g.O.Sink.holds c.serve-done.new.output) (g.O.Sink.faults c.serve-done.new.output) c.serve-done.new.touches (host_side (g.W.Host.tree c.serve-done.new.host) (g.W.Host.read_faults c.serve-done.new.host) (g.W.Host.write_faults c.serve-done.new.host)) (record { held = g.E.Sink.holds c.tell_end.new.errors; faults = g.E.Sink.faults c.tell_end.new.errors }))
+    (c.serve-done.ensures.serves (Err no_memory) (subst (λ asked. IsAsked asked (Err no_memory)) (sym m) (inl refl)) (record { held = g.E.Sink.holds c.args.errors.now; faults = g.E.Sink.faults c.args.errors.now }) (record { held = g.E.Sink.holds c.tell_end.new.errors; faults = g.E.Sink.faults c.tell_end.new.errors })) c.tell_end.ensures
 
 pub returns-in-One-clause-one : goal.returns-in-One-clause-one
 returns-in-One-clause-one g c = λ s r stands other.
@@ -90,9 +88,9 @@ pub returns-in-Pull-clause-pull : goal.returns-in-Pull-clause-pull
 returns-in-Pull-clause-pull g c = λ cid is.
     let same : requests.Pull c.in-Pull.cid ≡ requests.Pull cid = sym c.in-Pull.ensures.asked ∙ is in
     let one : c.in-Pull.cid ≡ cid = cc in
-    subst (λ cid. RunsPull (λ line. IsSent line (g.E.Sink.holds c.args.errors.now) (g.E.Sink.holds c.pull_from.new.errors) (g.E.Sink.faults c.args.errors.now) (g.E.Sink.faults c.pull_from.new.errors)) g.S.X.BlockHash.block32 g.N.NameHash.name64 cid c.pull_from.result
-    (around (g.S.Store.seen c.args.store.now) (g.I.Source.left c.args.input.now) (g.I.Source.faults c.args.input.now) (g.O.Sink.holds c.args.output.now) (g.O.Sink.faults c.args.output.now) c.args.touches.now (host_side (g.W.Host.tree c.args.host.now) (g.W.Host.read_faults c.args.host.now) (g.W.Host.write_faults c.args.host.now)))
-    (around (g.S.Store.seen c.pull_from.new.store) (g.I.Source.left c.pull_from.new.input) (g.I.Source.faults c.pull_from.new.input) (g.O.Sink.holds c.pull_from.new.output) (g.O.Sink.faults c.pull_from.new.output) c.pull_from.new.touches (host_side (g.W.Host.tree c.args.host.now) (g.W.Host.read_faults c.args.host.now) (g.W.Host.write_faults c.args.host.now)))) one
+    subst (λ cid. RunsPull g.S.X.BlockHash.block32 g.N.NameHash.name64 cid c.pull_from.result
+    (around (g.S.Store.seen c.args.store.now) (g.I.Source.left c.args.input.now) (g.I.Source.faults c.args.input.now) (g.O.Sink.holds c.args.output.now) (g.O.Sink.faults c.args.output.now) c.args.touches.now (host_side (g.W.Host.tree c.args.host.now) (g.W.Host.read_faults c.args.host.now) (g.W.Host.write_faults c.args.host.now)) (record { held = g.E.Sink.holds c.args.errors.now; faults = g.E.Sink.faults c.args.errors.now }))
+    (around (g.S.Store.seen c.pull_from.new.store) (g.I.Source.left c.pull_from.new.input) (g.I.Source.faults c.pull_from.new.input) (g.O.Sink.holds c.pull_from.new.output) (g.O.Sink.faults c.pull_from.new.output) c.pull_from.new.touches (host_side (g.W.Host.tree c.args.host.now) (g.W.Host.read_faults c.args.host.now) (g.W.Host.write_faults c.args.host.now)) (record { held = g.E.Sink.holds c.pull_from.new.errors; faults = g.E.Sink.faults c.pull_from.new.errors }))) one
     (c.pull_from.ensures g.N.NameHash.name64 (host_side (g.W.Host.tree c.args.host.now) (g.W.Host.read_faults c.args.host.now) (g.W.Host.write_faults c.args.host.now)))
 
 pub returns-in-Serve-clause-serve : goal.returns-in-Serve-clause-serve
@@ -101,14 +99,14 @@ returns-in-Serve-clause-serve g c = λ is. c.serve_wants.ensures g.N.NameHash.na
 pub returns-in-One-clause-pull : goal.returns-in-One-clause-pull
 returns-in-One-clause-pull g c = λ cid is.
     let m : c.in-One.asked ≡ Err no_memory = subst (IsAskedAlone c.in-One.asked) is c.in-One.ensures.asked in
-    pull-wants (λ line. IsSent line (g.E.Sink.holds c.args.errors.now) (g.E.Sink.holds c.tell_end.new.errors) (g.E.Sink.faults c.args.errors.now) (g.E.Sink.faults c.tell_end.new.errors)) g.S.X.BlockHash.block32 g.N.NameHash.name64 c.tell_end.result c.serve-done.result (around (g.S.Store.seen c.args.store.now) (g.I.Source.left c.args.input.now) (g.I.Source.faults c.args.input.now) (g.O.Sink.holds c.args.output.now) (g.O.Sink.faults c.args.output.now) c.args.touches.now (host_side (g.W.Host.tree c.args.host.now) (g.W.Host.read_faults c.args.host.now) (g.W.Host.write_faults c.args.host.now))) (around (g.S.Store.seen c.serve-done.new.store) (g.I.Source.left c.serve-done.new.input) (g.I.Source.faults c.serve-done.new.input) (g.O.Sink.holds c.serve-done.new.output) (g.O.Sink.faults c.serve-done.new.output) c.serve-done.new.touches (host_side (g.W.Host.tree c.serve-done.new.host) (g.W.Host.read_faults c.serve-done.new.host) (g.W.Host.write_faults c.serve-done.new.host)))
-    (c.serve-done.ensures.serves (Err no_memory) (subst (λ asked. IsAsked asked (Err no_memory)) (sym m) (inl refl))) c.tell_end.ensures cid
+    pull-wants g.S.X.BlockHash.block32 g.N.NameHash.name64 c.tell_end.result c.serve-done.result (around (g.S.Store.seen c.args.store.now) (g.I.Source.left c.args.input.now) (g.I.Source.faults c.args.input.now) (g.O.Sink.holds c.args.output.now) (g.O.Sink.faults c.args.output.now) c.args.touches.now (host_side (g.W.Host.tree c.args.host.now) (g.W.Host.read_faults c.args.host.now) (g.W.Host.write_faults c.args.host.now)) (record { held = g.E.Sink.holds c.args.errors.now; faults = g.E.Sink.faults c.args.errors.now })) (around (g.S.Store.seen c.serve-done.new.store) (g.I.Source.left c.serve-done.new.input) (g.I.Source.faults c.serve-done.new.input) (g.O.Sink.holds c.serve-done.new.output) (g.O.Sink.faults c.serve-done.new.output) c.serve-done.new.touches (host_side (g.W.Host.tree c.serve-done.new.host) (g.W.Host.read_faults c.serve-done.new.host) (g.W.Host.write_faults c.serve-done.new.host)) (record { held = g.E.Sink.holds c.tell_end.new.errors; faults = g.E.Sink.faults c.tell_end.new.errors }))
+    (c.serve-done.ensures.serves (Err no_memory) (subst (λ asked. IsAsked asked (Err no_memory)) (sym m) (inl refl)) (record { held = g.E.Sink.holds c.args.errors.now; faults = g.E.Sink.faults c.args.errors.now }) (record { held = g.E.Sink.holds c.tell_end.new.errors; faults = g.E.Sink.faults c.tell_end.new.errors })) c.tell_end.ensures cid
 
 pub returns-in-One-clause-serve : goal.returns-in-One-clause-serve
 returns-in-One-clause-serve g c = λ is.
     let m : c.in-One.asked ≡ Err no_memory = subst (IsAskedAlone c.in-One.asked) is c.in-One.ensures.asked in
-    serve-wants (λ line. IsSent line (g.E.Sink.holds c.args.errors.now) (g.E.Sink.holds c.tell_end.new.errors) (g.E.Sink.faults c.args.errors.now) (g.E.Sink.faults c.tell_end.new.errors)) g.S.X.BlockHash.block32 g.N.NameHash.name64 c.tell_end.result c.serve-done.result (around (g.S.Store.seen c.args.store.now) (g.I.Source.left c.args.input.now) (g.I.Source.faults c.args.input.now) (g.O.Sink.holds c.args.output.now) (g.O.Sink.faults c.args.output.now) c.args.touches.now (host_side (g.W.Host.tree c.args.host.now) (g.W.Host.read_faults c.args.host.now) (g.W.Host.write_faults c.args.host.now))) (around (g.S.Store.seen c.serve-done.new.store) (g.I.Source.left c.serve-done.new.input) (g.I.Source.faults c.serve-done.new.input) (g.O.Sink.holds c.serve-done.new.output) (g.O.Sink.faults c.serve-done.new.output) c.serve-done.new.touches (host_side (g.W.Host.tree c.serve-done.new.host) (g.W.Host.read_faults c.serve-done.new.host) (g.W.Host.write_faults c.serve-done.new.host)))
-    (c.serve-done.ensures.serves (Err no_memory) (subst (λ asked. IsAsked asked (Err no_memory)) (sym m) (inl refl))) c.tell_end.ensures
+    serve-wants g.S.X.BlockHash.block32 g.N.NameHash.name64 c.tell_end.result c.serve-done.result (around (g.S.Store.seen c.args.store.now) (g.I.Source.left c.args.input.now) (g.I.Source.faults c.args.input.now) (g.O.Sink.holds c.args.output.now) (g.O.Sink.faults c.args.output.now) c.args.touches.now (host_side (g.W.Host.tree c.args.host.now) (g.W.Host.read_faults c.args.host.now) (g.W.Host.write_faults c.args.host.now)) (record { held = g.E.Sink.holds c.args.errors.now; faults = g.E.Sink.faults c.args.errors.now })) (around (g.S.Store.seen c.serve-done.new.store) (g.I.Source.left c.serve-done.new.input) (g.I.Source.faults c.serve-done.new.input) (g.O.Sink.holds c.serve-done.new.output) (g.O.Sink.faults c.serve-done.new.output) c.serve-done.new.touches (host_side (g.W.Host.tree c.serve-done.new.host) (g.W.Host.read_faults c.serve-done.new.host) (g.W.Host.write_faults c.serve-done.new.host)) (record { held = g.E.Sink.holds c.tell_end.new.errors; faults = g.E.Sink.faults c.tell_end.new.errors }))
+    (c.serve-done.ensures.serves (Err no_memory) (subst (λ asked. IsAsked asked (Err no_memory)) (sym m) (inl refl)) (record { held = g.E.Sink.holds c.args.errors.now; faults = g.E.Sink.faults c.args.errors.now }) (record { held = g.E.Sink.holds c.tell_end.new.errors; faults = g.E.Sink.faults c.tell_end.new.errors })) c.tell_end.ensures
 
 pub returns-in-Pull-clause-one : goal.returns-in-Pull-clause-one
 returns-in-Pull-clause-one g c = λ s r stands other.
@@ -122,9 +120,9 @@ returns-in-Serve-clause-one g c = λ s r stands other.
 
 pub returns-in-Gc-clause-collect : goal.returns-in-Gc-clause-collect
 returns-in-Gc-clause-collect g c = λ is.
-    gc-runs (λ line. IsSent line (g.E.Sink.holds c.args.errors.now) (g.E.Sink.holds c.tell_end-in-Gc.new.errors) (g.E.Sink.faults c.args.errors.now) (g.E.Sink.faults c.tell_end-in-Gc.new.errors)) g.S.X.BlockHash.block32 g.N.NameHash.name64 c.tell_end-in-Gc.result c.collect_rest-done.result
-    (around (g.S.Store.seen c.args.store.now) (g.I.Source.left c.args.input.now) (g.I.Source.faults c.args.input.now) (g.O.Sink.holds c.args.output.now) (g.O.Sink.faults c.args.output.now) c.args.touches.now (host_side (g.W.Host.tree c.args.host.now) (g.W.Host.read_faults c.args.host.now) (g.W.Host.write_faults c.args.host.now)))
-    (around (g.S.Store.seen c.collect_rest-done.new.store) (g.I.Source.left c.args.input.now) (g.I.Source.faults c.args.input.now) (g.O.Sink.holds c.collect_rest-done.new.output) (g.O.Sink.faults c.collect_rest-done.new.output) c.collect_rest-done.new.touches (host_side (g.W.Host.tree c.args.host.now) (g.W.Host.read_faults c.args.host.now) (g.W.Host.write_faults c.args.host.now)))
+    gc-runs g.S.X.BlockHash.block32 g.N.NameHash.name64 c.tell_end-in-Gc.result c.collect_rest-done.result
+    (around (g.S.Store.seen c.args.store.now) (g.I.Source.left c.args.input.now) (g.I.Source.faults c.args.input.now) (g.O.Sink.holds c.args.output.now) (g.O.Sink.faults c.args.output.now) c.args.touches.now (host_side (g.W.Host.tree c.args.host.now) (g.W.Host.read_faults c.args.host.now) (g.W.Host.write_faults c.args.host.now)) (record { held = g.E.Sink.holds c.args.errors.now; faults = g.E.Sink.faults c.args.errors.now }))
+    (around (g.S.Store.seen c.collect_rest-done.new.store) (g.I.Source.left c.args.input.now) (g.I.Source.faults c.args.input.now) (g.O.Sink.holds c.collect_rest-done.new.output) (g.O.Sink.faults c.collect_rest-done.new.output) c.collect_rest-done.new.touches (host_side (g.W.Host.tree c.args.host.now) (g.W.Host.read_faults c.args.host.now) (g.W.Host.write_faults c.args.host.now)) (record { held = g.E.Sink.holds c.tell_end-in-Gc.new.errors; faults = g.E.Sink.faults c.tell_end-in-Gc.new.errors }))
     (record { size = g.met.S.X.BlockHash.size; are_bytes = g.met.S.X.BlockHash.are_bytes }) g.met.N.NameHash.fits c.collect_rest-done.ensures c.tell_end-in-Gc.ensures refl refl refl
 
 pub returns-in-Gc-clause-one : goal.returns-in-Gc-clause-one
@@ -134,17 +132,17 @@ returns-in-Gc-clause-one g c = λ s r stands other.
 pub returns-in-One-clause-collect : goal.returns-in-One-clause-collect
 returns-in-One-clause-collect g c = λ is.
     let m : c.in-One.asked ≡ Err no_memory = subst (IsAskedAlone c.in-One.asked) is c.in-One.ensures.asked in
-    gc-wants (λ line. IsSent line (g.E.Sink.holds c.args.errors.now) (g.E.Sink.holds c.tell_end.new.errors) (g.E.Sink.faults c.args.errors.now) (g.E.Sink.faults c.tell_end.new.errors)) g.S.X.BlockHash.block32 g.N.NameHash.name64 c.tell_end.result c.serve-done.result (around (g.S.Store.seen c.args.store.now) (g.I.Source.left c.args.input.now) (g.I.Source.faults c.args.input.now) (g.O.Sink.holds c.args.output.now) (g.O.Sink.faults c.args.output.now) c.args.touches.now (host_side (g.W.Host.tree c.args.host.now) (g.W.Host.read_faults c.args.host.now) (g.W.Host.write_faults c.args.host.now))) (around (g.S.Store.seen c.serve-done.new.store) (g.I.Source.left c.serve-done.new.input) (g.I.Source.faults c.serve-done.new.input) (g.O.Sink.holds c.serve-done.new.output) (g.O.Sink.faults c.serve-done.new.output) c.serve-done.new.touches (host_side (g.W.Host.tree c.serve-done.new.host) (g.W.Host.read_faults c.serve-done.new.host) (g.W.Host.write_faults c.serve-done.new.host)))
-    (c.serve-done.ensures.serves (Err no_memory) (subst (λ asked. IsAsked asked (Err no_memory)) (sym m) (inl refl))) c.tell_end.ensures
+    gc-wants g.S.X.BlockHash.block32 g.N.NameHash.name64 c.tell_end.result c.serve-done.result (around (g.S.Store.seen c.args.store.now) (g.I.Source.left c.args.input.now) (g.I.Source.faults c.args.input.now) (g.O.Sink.holds c.args.output.now) (g.O.Sink.faults c.args.output.now) c.args.touches.now (host_side (g.W.Host.tree c.args.host.now) (g.W.Host.read_faults c.args.host.now) (g.W.Host.write_faults c.args.host.now)) (record { held = g.E.Sink.holds c.args.errors.now; faults = g.E.Sink.faults c.args.errors.now })) (around (g.S.Store.seen c.serve-done.new.store) (g.I.Source.left c.serve-done.new.input) (g.I.Source.faults c.serve-done.new.input) (g.O.Sink.holds c.serve-done.new.output) (g.O.Sink.faults c.serve-done.new.output) c.serve-done.new.touches (host_side (g.W.Host.tree c.serve-done.new.host) (g.W.Host.read_faults c.serve-done.new.host) (g.W.Host.write_faults c.serve-done.new.host)) (record { held = g.E.Sink.holds c.tell_end.new.errors; faults = g.E.Sink.faults c.tell_end.new.errors }))
+    (c.serve-done.ensures.serves (Err no_memory) (subst (λ asked. IsAsked asked (Err no_memory)) (sym m) (inl refl)) (record { held = g.E.Sink.holds c.args.errors.now; faults = g.E.Sink.faults c.args.errors.now }) (record { held = g.E.Sink.holds c.tell_end.new.errors; faults = g.E.Sink.faults c.tell_end.new.errors })) c.tell_end.ensures
 
 -- ---- the check of a proof
 
 pub returns-in-Check-clause-check : goal.returns-in-Check-clause-check
 returns-in-Check-clause-check g c = λ absent cid path is.
     let same : requests.Check c.in-Check.absent c.in-Check.cid c.in-Check.path ≡ requests.Check absent cid path = sym c.in-Check.ensures.asked ∙ is in
-    checked-as (λ line. IsSent line (g.E.Sink.holds c.args.errors.now) (g.E.Sink.holds c.tell_end-in-Check.new.errors) (g.E.Sink.faults c.args.errors.now) (g.E.Sink.faults c.tell_end-in-Check.new.errors)) c.tell_end-in-Check.result g.S.X.BlockHash.block32 g.N.NameHash.name64
-    (around (g.S.Store.seen c.args.store.now) (g.I.Source.left c.args.input.now) (g.I.Source.faults c.args.input.now) (g.O.Sink.holds c.args.output.now) (g.O.Sink.faults c.args.output.now) c.args.touches.now (host_side (g.W.Host.tree c.args.host.now) (g.W.Host.read_faults c.args.host.now) (g.W.Host.write_faults c.args.host.now)))
-    (around (g.S.Store.seen c.args.store.now) (g.I.Source.left c.check_input-done.new.input) (g.I.Source.faults c.check_input-done.new.input) (g.O.Sink.holds c.check_input-done.new.output) (g.O.Sink.faults c.check_input-done.new.output) c.check_input-done.new.touches (host_side (g.W.Host.tree c.args.host.now) (g.W.Host.read_faults c.args.host.now) (g.W.Host.write_faults c.args.host.now)))
+    checked-as c.tell_end-in-Check.result g.S.X.BlockHash.block32 g.N.NameHash.name64
+    (around (g.S.Store.seen c.args.store.now) (g.I.Source.left c.args.input.now) (g.I.Source.faults c.args.input.now) (g.O.Sink.holds c.args.output.now) (g.O.Sink.faults c.args.output.now) c.args.touches.now (host_side (g.W.Host.tree c.args.host.now) (g.W.Host.read_faults c.args.host.now) (g.W.Host.write_faults c.args.host.now)) (record { held = g.E.Sink.holds c.args.errors.now; faults = g.E.Sink.faults c.args.errors.now }))
+    (around (g.S.Store.seen c.args.store.now) (g.I.Source.left c.check_input-done.new.input) (g.I.Source.faults c.check_input-done.new.input) (g.O.Sink.holds c.check_input-done.new.output) (g.O.Sink.faults c.check_input-done.new.output) c.check_input-done.new.touches (host_side (g.W.Host.tree c.args.host.now) (g.W.Host.read_faults c.args.host.now) (g.W.Host.write_faults c.args.host.now)) (record { held = g.E.Sink.holds c.tell_end-in-Check.new.errors; faults = g.E.Sink.faults c.tell_end-in-Check.new.errors }))
     c.in-Check.absent absent c.in-Check.cid cid c.in-Check.path path same (record {
       done = c.check_input-done.result;
       tells = c.tell_end-in-Check.ensures;
@@ -156,8 +154,8 @@ returns-in-Check-clause-check g c = λ absent cid path is.
 pub returns-in-One-clause-check : goal.returns-in-One-clause-check
 returns-in-One-clause-check g c = λ absent cid path is.
     let m : c.in-One.asked ≡ Err no_memory = subst (IsAskedAlone c.in-One.asked) is c.in-One.ensures.asked in
-    check-wants (λ line. IsSent line (g.E.Sink.holds c.args.errors.now) (g.E.Sink.holds c.tell_end.new.errors) (g.E.Sink.faults c.args.errors.now) (g.E.Sink.faults c.tell_end.new.errors)) g.S.X.BlockHash.block32 g.N.NameHash.name64 c.tell_end.result c.serve-done.result (around (g.S.Store.seen c.args.store.now) (g.I.Source.left c.args.input.now) (g.I.Source.faults c.args.input.now) (g.O.Sink.holds c.args.output.now) (g.O.Sink.faults c.args.output.now) c.args.touches.now (host_side (g.W.Host.tree c.args.host.now) (g.W.Host.read_faults c.args.host.now) (g.W.Host.write_faults c.args.host.now))) (around (g.S.Store.seen c.serve-done.new.store) (g.I.Source.left c.serve-done.new.input) (g.I.Source.faults c.serve-done.new.input) (g.O.Sink.holds c.serve-done.new.output) (g.O.Sink.faults c.serve-done.new.output) c.serve-done.new.touches (host_side (g.W.Host.tree c.serve-done.new.host) (g.W.Host.read_faults c.serve-done.new.host) (g.W.Host.write_faults c.serve-done.new.host)))
-    (c.serve-done.ensures.serves (Err no_memory) (subst (λ asked. IsAsked asked (Err no_memory)) (sym m) (inl refl))) c.tell_end.ensures absent cid path.names
+    check-wants g.S.X.BlockHash.block32 g.N.NameHash.name64 c.tell_end.result c.serve-done.result (around (g.S.Store.seen c.args.store.now) (g.I.Source.left c.args.input.now) (g.I.Source.faults c.args.input.now) (g.O.Sink.holds c.args.output.now) (g.O.Sink.faults c.args.output.now) c.args.touches.now (host_side (g.W.Host.tree c.args.host.now) (g.W.Host.read_faults c.args.host.now) (g.W.Host.write_faults c.args.host.now)) (record { held = g.E.Sink.holds c.args.errors.now; faults = g.E.Sink.faults c.args.errors.now })) (around (g.S.Store.seen c.serve-done.new.store) (g.I.Source.left c.serve-done.new.input) (g.I.Source.faults c.serve-done.new.input) (g.O.Sink.holds c.serve-done.new.output) (g.O.Sink.faults c.serve-done.new.output) c.serve-done.new.touches (host_side (g.W.Host.tree c.serve-done.new.host) (g.W.Host.read_faults c.serve-done.new.host) (g.W.Host.write_faults c.serve-done.new.host)) (record { held = g.E.Sink.holds c.tell_end.new.errors; faults = g.E.Sink.faults c.tell_end.new.errors }))
+    (c.serve-done.ensures.serves (Err no_memory) (subst (λ asked. IsAsked asked (Err no_memory)) (sym m) (inl refl)) (record { held = g.E.Sink.holds c.args.errors.now; faults = g.E.Sink.faults c.args.errors.now }) (record { held = g.E.Sink.holds c.tell_end.new.errors; faults = g.E.Sink.faults c.tell_end.new.errors })) c.tell_end.ensures absent cid path.names
 
 pub returns-in-Check-clause-one : goal.returns-in-Check-clause-one
 returns-in-Check-clause-one g c = λ s r stands other.

@@ -10,19 +10,19 @@ use Rattle.uf_top.proofs.Serving.{asked-kinds, asked-spare, words-serve}
 use Rattle.uf_top.proofs.command.serve.Goals as goal
 
 pub returns-in_err-command-clause-serves : goal.returns-in_err-command-clause-serves
-returns-in_err-command-clause-serves g c = λ told h.
+returns-in_err-command-clause-serves g c = λ told h er er2.
     let out = err_from_is_err_and c.from_residual.result c.from_residual.ensures.1 in
     rw (out.1, out.2) (words-serve g.S.X.BlockHash.block32 g.N.NameHash.name64
-    (around (g.S.Store.seen c.args.store.now) (g.I.Source.left c.args.input.now) (g.I.Source.faults c.args.input.now) (g.O.Sink.holds c.args.output.now) (g.O.Sink.faults c.args.output.now) c.args.touches.now (host_side (g.W.Host.tree c.args.host.now) (g.W.Host.read_faults c.args.host.now) (g.W.Host.write_faults c.args.host.now)))
+    (around (g.S.Store.seen c.args.store.now) (g.I.Source.left c.args.input.now) (g.I.Source.faults c.args.input.now) (g.O.Sink.holds c.args.output.now) (g.O.Sink.faults c.args.output.now) c.args.touches.now (host_side (g.W.Host.tree c.args.host.now) (g.W.Host.read_faults c.args.host.now) (g.W.Host.write_faults c.args.host.now)) er) er2
     told c.in_err-command.field-0.0 (subst (λ asked. IsAsked asked told) c.in_err-command.was h))
 
 pub returns-clause-serves : goal.returns-clause-serves
-returns-clause-serves g c = λ told h.
+returns-clause-serves g c = λ told h er er2.
     let e : told ≡ Ok c.in_ok-command.command = subst (λ asked. IsAsked asked told) c.in_ok-command.was h in
     subst (λ asked. Serves g.S.X.BlockHash.block32 g.N.NameHash.name64 asked c.work.result
-    (around (g.S.Store.seen c.args.store.now) (g.I.Source.left c.args.input.now) (g.I.Source.faults c.args.input.now) (g.O.Sink.holds c.args.output.now) (g.O.Sink.faults c.args.output.now) c.args.touches.now (host_side (g.W.Host.tree c.args.host.now) (g.W.Host.read_faults c.args.host.now) (g.W.Host.write_faults c.args.host.now)))
-    (around (g.S.Store.seen c.work.new.store) (g.I.Source.left c.work.new.input) (g.I.Source.faults c.work.new.input) (g.O.Sink.holds c.work.new.output) (g.O.Sink.faults c.work.new.output) c.work.new.touches (host_side (g.W.Host.tree c.work.new.host) (g.W.Host.read_faults c.work.new.host) (g.W.Host.write_faults c.work.new.host))))
-    (sym e) c.work.ensures.does
+    (around (g.S.Store.seen c.args.store.now) (g.I.Source.left c.args.input.now) (g.I.Source.faults c.args.input.now) (g.O.Sink.holds c.args.output.now) (g.O.Sink.faults c.args.output.now) c.args.touches.now (host_side (g.W.Host.tree c.args.host.now) (g.W.Host.read_faults c.args.host.now) (g.W.Host.write_faults c.args.host.now)) er)
+    (around (g.S.Store.seen c.work.new.store) (g.I.Source.left c.work.new.input) (g.I.Source.faults c.work.new.input) (g.O.Sink.holds c.work.new.output) (g.O.Sink.faults c.work.new.output) c.work.new.touches (host_side (g.W.Host.tree c.work.new.host) (g.W.Host.read_faults c.work.new.host) (g.W.Host.write_faults c.work.new.host)) er2))
+    (sym e) (c.work.ensures.does er er2)
 
 pub returns-in_err-command-clause-own : goal.returns-in_err-command-clause-own
 returns-in_err-command-clause-own g c = λ told h words.

@@ -11,7 +11,7 @@ returns-in-Input-true g c =
     record {
       makes = subst (λ what. OverInputHost g.I.Source g.W.Host (Makes g.S.X.BlockHash.block32 g.N.NameHash.name64 (Add what) c.add_only_hash.result)
           (g.S.Store.seen c.args.store.now) c.args.input.now c.args.touches.now c.args.host.now (g.S.Store.seen c.add_only_hash.new.store) c.add_only_hash.new.input c.args.touches.now c.args.host.now)
-          (sym e) (λ held writes. c.add_only_hash.ensures g.N.NameHash.name64 held writes c.args.touches.now (side_at g.W.Host c.args.host.now));
+          (sym e) (λ held writes. c.add_only_hash.ensures g.N.NameHash.name64 c.args.touches.now held writes (side_at g.W.Host c.args.host.now));
       spares = subst (λ what. Spares (Ok (Add what)) c.args.store.now c.add_only_hash.new.store c.args.input.now c.add_only_hash.new.input c.args.host.now c.args.host.now c.args.touches.now c.args.touches.now)
           (sym e) (record { left = λ e. absurd cc; input = λ e. absurd cc; host = λ e. refl; untouched = λ e. refl });
     }
@@ -33,7 +33,7 @@ returns-in-Host-default-true-default g c =
     record {
       makes = subst (λ what. OverInputHost g.I.Source g.W.Host (Makes g.S.X.BlockHash.block32 g.N.NameHash.name64 (Add what) c.hash_from.result)
           (g.S.Store.seen c.args.store.now) c.args.input.now c.args.touches.now c.args.host.now (g.S.Store.seen c.hash_from.new.store) c.args.input.now c.args.touches.now c.hash_from.new.host)
-          (sym e) (λ held writes. c.hash_from.ensures (g.I.Source.left c.args.input.now) (g.I.Source.faults c.args.input.now) held writes c.args.touches.now);
+          (sym e) (λ held writes. c.hash_from.ensures c.args.touches.now (g.I.Source.left c.args.input.now) (g.I.Source.faults c.args.input.now) held writes);
       spares = subst (λ what. Spares (Ok (Add what)) c.args.store.now c.hash_from.new.store c.args.input.now c.args.input.now c.args.host.now c.hash_from.new.host c.args.touches.now c.args.touches.now)
           (sym e) (record { left = λ e. absurd cc; input = λ e. refl; host = λ e. absurd cc; untouched = λ e. refl });
     }

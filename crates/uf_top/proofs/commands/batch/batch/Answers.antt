@@ -1,7 +1,7 @@
 use Rattle.std.proofs.Common.{◌∙◌, ◌++◌, ◌∷◌, [], ap, refl, sym}
 use Rattle.uf_lines.specs.Reading.{lines_ahead, with_line_told}
 use Rattle.uf_top.specs.Batch.{AtLine, ByMemory}
-use Rattle.uf_top.specs.Lent.{line_at}
+use Rattle.uf_top.specs.Lent.{lent_line}
 use Rattle.uf_top.proofs.Lined.{goes-line, goes-more, goes-some, lines-more}
 use Rattle.uf_top.proofs.commands.batch.batch.Goals as goal
 
@@ -10,7 +10,7 @@ returns-in-Memory g c =
     let gone = c.rest.invariant.gone in
     record {
       lines = gone.0;
-      between = line_at g.O.Sink g.W.Host g.E.Sink (g.S.Store.seen c.rest.store) c.rest.output c.rest.touches c.rest.host c.rest.errors;
+      between = lent_line g.O.Sink g.W.Host g.E.Sink (g.S.Store.seen c.rest.store) c.rest.output c.rest.touches c.rest.host c.rest.errors;
       ending = ByMemory;
       done = gone.1;
       ends = record { same = refl; told = c.tell-in-Memory.ensures };
@@ -24,7 +24,7 @@ returns-in-Some g c =
     let gone = c.rest.invariant.gone in
     record {
       lines = gone.0;
-      between = line_at g.O.Sink g.W.Host g.E.Sink (g.S.Store.seen c.rest.store) c.rest.output c.rest.touches c.rest.host c.rest.errors;
+      between = lent_line g.O.Sink g.W.Host g.E.Sink (g.S.Store.seen c.rest.store) c.rest.output c.rest.touches c.rest.host c.rest.errors;
       ending = AtLine c.line-line.result.now;
       done = gone.1;
       ends = c.in-Some.ensures;
