@@ -1,6 +1,6 @@
 //! The calls of this program.
 
-use crate::{cars, dirs, files, foreign};
+use crate::{cars, dirs, edits, files, foreign, lookups, plain};
 use std::sync::ledger::Ledger;
 use uf_cid::{Block, BlockHash, Memory};
 use uf_playing::{Caller, Player, Scene, call_memory, play_lines};
@@ -51,7 +51,10 @@ fn call_over<X: BlockHash, L: Ledger>(
         call_memory(alloc, store, line, told, touches)?
             || cars::call(alloc, store, &mut scene.input, line, told, touches)?
             || files::call(alloc, store, scene.input.as_slice(), line, told, touches)?
+            || edits::call(alloc, store, scene.input.as_slice(), line, told, touches)?
             || foreign::call(alloc, store, line, told, touches)?
-            || dirs::call(alloc, store, line, told, touches)?,
+            || dirs::call(alloc, store, line, told, touches)?
+            || lookups::call(alloc, store, line, told, touches)?
+            || plain::call(alloc, line, told)?,
     )
 }

@@ -22,7 +22,8 @@ const USUAL: Limits = Limits {
     visits: 1048576,
 };
 
-fn usual() -> Profile
+/// The usual profile.
+pub fn usual() -> Profile
     ensures { IsTrue (is_profile result) }
 {
     Profile {
@@ -100,24 +101,24 @@ fn build_two<X: BlockHash, L: Ledger>(
     }
 }
 
-fn add_number(alloc: Global, pairs: &mut Pairs, number: u64) -> Result<(), Memory> {
+fn add_number(alloc: Global, pairs: &mut Pairs, number: u64, tsize: u64) -> Result<(), Memory> {
     let text = format!(in alloc; "f{number:05}")?;
-    match add(alloc, pairs, text.as_str(), 0) {
+    match add(alloc, pairs, text.as_str(), tsize) {
         Ok(()) => Ok(()),
         Err(_) => Err(Memory),
     }
 }
 
-// n empty files, named by `f` and five digits.
-fn numbered(alloc: Global, count: u64) -> Result<Pairs, Memory> {
+// n empty files, named by `f` and five digits. The Tsize of each is its number times this one.
+fn numbered(alloc: Global, count: u64, times: u64) -> Result<Pairs, Memory> {
     let mut pairs = Pairs::new(alloc);
     for number in 0..count {
-        add_number(alloc, &mut pairs, number)?;
+        add_number(alloc, &mut pairs, number, number.saturating_mul(times))?;
     }
     Ok(pairs)
 }
 
-// A directory of numbered files under the hash of UnixFS: `shard-files COUNT`.
+// A directory of numbered files under the hash of UnixFS: `shard-files COUNT TIMES`.
 fn build_numbered<X: BlockHash, L: Ledger>(
     alloc: Global,
     store: &mut MemStore<X>,
@@ -125,7 +126,8 @@ fn build_numbered<X: BlockHash, L: Ledger>(
     told: &mut Block,
     touches: &mut Steps<L>,
 ) -> Result<(), Memory> {
-    let pairs = numbered(alloc, number_of(rest))?;
+    let (count, times) = number_and_rest(rest);
+    let pairs = numbered(alloc, count, number_of(times))?;
     build_pairs::<X, Murmur3, L>(alloc, store, &pairs, told, touches)
 }
 
@@ -168,7 +170,7 @@ fn find_numbered<X: BlockHash, L: Ledger>(
 ) -> Result<(), Memory> {
     let (count, text) = number_and_rest(rest);
     let root = cid_of(text);
-    let pairs = numbered(alloc, count)?;
+    let pairs = numbered(alloc, count, 0)?;
     tell_count(told, alloc, are_found(alloc, store, &root, &pairs, touches))
 }
 
@@ -194,7 +196,8 @@ fn say_cids(told: &mut Block, cids: &Cids) -> Result<(), Memory> {
     say(told, "no more")
 }
 
-fn say_trail(
+/// Says the blocks that decide a name.
+pub fn say_trail(
     alloc: Global,
     answer: &Result<Cids, StoreFault>,
     told: &mut Block,
@@ -205,7 +208,8 @@ fn say_trail(
     }
 }
 
-fn say_found(
+/// Says the entry of a name, or that there is none.
+pub fn say_found(
     alloc: Global,
     answer: &Result<Option<Entry>, StoreFault>,
     told: &mut Block,

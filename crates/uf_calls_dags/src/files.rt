@@ -31,7 +31,8 @@ pub fn say_entry(alloc: Global, entry: &Entry, told: &mut Block) -> Result<(), M
     say(told, line.as_str())
 }
 
-fn say_build_fault(alloc: Global, fault: &BuildFault, told: &mut Block) -> Result<(), Memory> {
+/// Says why a file can't be built or changed.
+pub fn say_build_fault(alloc: Global, fault: &BuildFault, told: &mut Block) -> Result<(), Memory> {
     match fault {
         BuildFault::FileTooLong => say(told, "file too long"),
         BuildFault::Spent => say(told, "spent"),

@@ -1,16 +1,21 @@
 //! Plays a transcript of calls on DAGs over stores and streams in memory: CARs, pulls and comparisons, files that are
-//! built and read, directories in shards, and what others wrote. It prints the transcript again. Under each call
+//! built, changed and read, directories in shards, and what others wrote. It prints the transcript again. Under each call
 //! stands what is to come of it: where that comes of all of them, what is printed is the transcript itself, and the
 //! status is 0.
 #![tactic(auto)]
 
 ghost use Rattle.std.specs.Prelude.{◌≡◌, ◌<◌};
 
+mod bounds;
 mod calling;
 mod cars;
 mod dirs;
+mod edits;
 mod files;
 mod foreign;
+mod lookups;
+mod plain;
+mod watched;
 
 use crate::calling::DagCalls;
 use std::alloc::Global;

@@ -79,6 +79,13 @@ fn call_fronts<C: Caller, X: BlockHash, L: Ledger>(
     Ok(())
 }
 
+// An empty store, and an input of these bytes.
+fn begin_front<X: BlockHash>(scene: &mut Scene<X>, front: &[u8]) -> Result<(), Memory> {
+    scene.input = Block::from_slice(scene.alloc, front)?;
+    let _ = scene.take_store();
+    Ok(())
+}
+
 fn call_front<C: Caller, X: BlockHash, L: Ledger>(
     scene: &mut Scene<X>,
     front: &[u8],
@@ -87,9 +94,8 @@ fn call_front<C: Caller, X: BlockHash, L: Ledger>(
     touches: &mut Steps<L>,
 ) -> Result<(), Memory> {
     let (told, last) = answers;
+    begin_front(scene, front)?;
     let mut now = Block::new(scene.alloc);
-    scene.input = Block::from_slice(scene.alloc, front)?;
-    let _ = scene.take_store();
     call_each::<C, X, L>(scene, line, &mut now, touches)?;
     tell_new(
         scene.alloc,

@@ -43,23 +43,38 @@ impl<X: BlockHash> Scene<X> {
     }
 }
 
-/// Does what a line after a `!` asks for.
-pub fn set<X: BlockHash>(scene: &mut Scene<X>, line: &str, told: &mut Block) -> Result<(), Memory> {
+// Has a host of nothing take the place of this one, which may fail: `host-fails CALL`.
+fn set_host(alloc: Global, host: &mut MemHost, rest: &str) -> Result<(), Memory> {
+    let fails = calls(alloc, failing(number_of(rest)))?;
+    *host = MemHost::new(alloc, fails);
+    Ok(())
+}
+
+// Sets the input, or changes the store.
+fn set_rest<X: BlockHash>(
+    scene: &mut Scene<X>,
+    line: &str,
+    told: &mut Block,
+) -> Result<(), Memory> {
     let (word, rest) = word_and_rest(line);
-    if word == "other" {
-        mem::swap(&mut scene.store, &mut scene.other);
-        return Ok(());
-    }
-    if word == "host-fails" {
-        let fails = calls(scene.alloc, failing(number_of(rest)))?;
-        scene.host = MemHost::new(scene.alloc, fails);
-        return Ok(());
-    }
     let is_done = feed(scene.alloc, &mut scene.input, line)?
         || stores::set(scene.alloc, &mut scene.store, word, rest)?;
     if is_done {
         Ok(())
     } else {
         say(told, "no such line")
+    }
+}
+
+/// Does what a line after a `!` asks for.
+pub fn set<X: BlockHash>(scene: &mut Scene<X>, line: &str, told: &mut Block) -> Result<(), Memory> {
+    let (word, rest) = word_and_rest(line);
+    match word {
+        "other" => {
+            mem::swap(&mut scene.store, &mut scene.other);
+            Ok(())
+        }
+        "host-fails" => set_host(scene.alloc, &mut scene.host, rest),
+        _ => set_rest(scene, line, told),
     }
 }

@@ -5,7 +5,7 @@ use crate::values::{codec_of, say_cid, size_of};
 use std::alloc::Global;
 use std::sync::ledger::Ledger;
 use uf_cid::{Block, BlockHash, Cid, Cids, Codec, Memory};
-use uf_edge::Put;
+use uf_edge::{Calls, Put};
 use uf_store::{
     CallKind, Discard, MOST_BYTES, MemStore, Note, NoteRead, Steps, Store, StoreFault, Sweep, need,
     save_block,
@@ -237,6 +237,15 @@ fn hold_zeros<X: BlockHash>(
     store.plant(&Cid::of::<X>(Codec::Raw, &bytes), held)
 }
 
+// The numbers that are listed.
+fn numbers_of(alloc: Global, rest: &str) -> Result<Calls, Memory> {
+    let mut numbers = Calls::new(alloc);
+    for word in rest.split_ascii_whitespace() {
+        numbers.push(number_of(word))?;
+    }
+    Ok(numbers)
+}
+
 // What a stop after AT writes leaves, where the saves at these places are lost: `stop AT PLACE ..`.
 fn stopped<X: BlockHash>(
     alloc: Global,
@@ -244,10 +253,7 @@ fn stopped<X: BlockHash>(
     rest: &str,
 ) -> Result<MemStore<X>, Memory> {
     let (at, rest) = number_and_rest(rest);
-    let mut lost = uf_edge::Calls::new(alloc);
-    for place in rest.split_ascii_whitespace() {
-        lost.push(number_of(place))?;
-    }
+    let lost = numbers_of(alloc, rest)?;
     store.after_stop(size_of(at).min(store.writes()), &lost)
 }
 
@@ -261,6 +267,60 @@ fn note<X: BlockHash>(alloc: Global, store: &mut MemStore<X>, line: &str) -> Res
     }
 }
 
+// Has a call of a store fail, from now on; whether the word names one.
+fn set_failing<X: BlockHash>(
+    store: &mut MemStore<X>,
+    word: &str,
+    rest: &str,
+) -> Result<bool, Memory> {
+    match kind_of(word) {
+        Some(kind) => {
+            store.fail_at(kind, number_of(rest))?;
+            Ok(true)
+        }
+        None => Ok(false),
+    }
+}
+
+// Has a store hold blocks, or lose one; whether the word asks for that.
+fn set_blocks<X: BlockHash>(
+    alloc: Global,
+    store: &mut MemStore<X>,
+    word: &str,
+    rest: &str,
+) -> Result<bool, Memory> {
+    match word {
+        "hold" => hold(alloc, store, rest, None)?,
+        "hold-zeros" => hold_zeros(alloc, store, number_of(rest))?,
+        "spoil" => hold(alloc, store, rest, Some(b"x"))?,
+        "lose" => store.forget(&cid_in::<X>(alloc, rest)?),
+        _ => return Ok(false),
+    }
+    Ok(true)
+}
+
+fn stop<X: BlockHash>(alloc: Global, store: &mut MemStore<X>, rest: &str) -> Result<(), Memory> {
+    let left = stopped(alloc, store, rest)?;
+    *store = left;
+    Ok(())
+}
+
+// Has another store take the place of this one, or a note of pins be in it; whether the word asks for that.
+fn set_whole<X: BlockHash>(
+    alloc: Global,
+    store: &mut MemStore<X>,
+    word: &str,
+    rest: &str,
+) -> Result<bool, Memory> {
+    match word {
+        "note" => note(alloc, store, rest)?,
+        "stop" => stop(alloc, store, rest)?,
+        "empty" => *store = MemStore::new(alloc),
+        _ => return Ok(false),
+    }
+    Ok(true)
+}
+
 /// A change of a store; whether the word names one.
 pub fn set<X: BlockHash>(
     alloc: Global,
@@ -268,19 +328,9 @@ pub fn set<X: BlockHash>(
     word: &str,
     rest: &str,
 ) -> Result<bool, Memory> {
-    if let Some(kind) = kind_of(word) {
-        store.fail_at(kind, number_of(rest))?;
-        return Ok(true);
-    }
-    match word {
-        "hold" => hold(alloc, store, rest, None)?,
-        "hold-zeros" => hold_zeros(alloc, store, number_of(rest))?,
-        "spoil" => hold(alloc, store, rest, Some(b"x"))?,
-        "lose" => store.forget(&cid_in::<X>(alloc, rest)?),
-        "note" => note(alloc, store, rest)?,
-        "stop" => *store = stopped(alloc, store, rest)?,
-        "empty" => *store = MemStore::new(alloc),
-        _ => return Ok(false),
-    }
-    Ok(true)
+    Ok(
+        set_failing(store, word, rest)?
+            || set_blocks(alloc, store, word, rest)?
+            || set_whole(alloc, store, word, rest)?,
+    )
 }

@@ -1,0 +1,74 @@
+//! Calls on what is said of the tree with no store.
+
+use std::alloc::Global;
+use uf_cid::{Block, Cid, Codec, Memory, Sha256Hash};
+use uf_path::Path;
+use uf_plain::{Refused, Row, Rows, Rule, rule_at};
+use uf_testing::{number_and_rest, say, word_and_rest};
+use uf_tree::Name;
+
+// The text of a rule about a path.
+fn text_of(rule: &Rule) -> &str {
+    match rule {
+        Rule::NotFound(text) => text.as_str(),
+        _ => "none",
+    }
+}
+
+// What a rule says that is decided by the first names of a path: `rule LED PATH`.
+fn tell_rule(alloc: Global, rest: &str, told: &mut Block) -> Result<(), Memory> {
+    let (led, text) = number_and_rest(rest);
+    let led = led.min(255) as usize;
+    let Ok(path) = Path::parse(alloc, text) else {
+        return Err(Memory);
+    };
+    let rule = rule_at(alloc, path.names.as_slice(), Refused::NotFound(led))?;
+    say(told, text_of(&rule))
+}
+
+// Puts a row after others.
+fn add_row(alloc: Global, rows: &mut Rows, text: &str, size: u64) -> Result<(), Memory> {
+    let cid = Cid::of::<Sha256Hash>(Codec::Raw, b"hello world");
+    match Name::parse(alloc, text) {
+        Ok(name) => rows.push(Row { name, cid, size }),
+        Err(_) => Err(Memory),
+    }
+}
+
+fn tell_row(alloc: Global, row: &Row, told: &mut Block) -> Result<(), Memory> {
+    let cid = row.cid.text();
+    let text = str::from_utf8(&cid).unwrap_or("?");
+    let line = format!(in alloc; "{} {text} {}", row.name.as_str(), row.size)?;
+    say(told, line.as_str())
+}
+
+fn tell_rows(alloc: Global, rows: &Rows, told: &mut Block) -> Result<(), Memory> {
+    for row in rows.as_slice() {
+        tell_row(alloc, row, told)?;
+    }
+    Ok(())
+}
+
+// Two rows, copied: `rows NAME SIZE NAME SIZE`.
+fn copy_rows(alloc: Global, rest: &str, told: &mut Block) -> Result<(), Memory> {
+    let (first, rest) = word_and_rest(rest);
+    let (first_size, rest) = number_and_rest(rest);
+    let (second, rest) = word_and_rest(rest);
+    let (second_size, _) = number_and_rest(rest);
+    let mut rows = Rows::new(alloc);
+    add_row(alloc, &mut rows, first, first_size)?;
+    add_row(alloc, &mut rows, second, second_size)?;
+    let copy = rows.copy()?;
+    tell_rows(alloc, &copy, told)
+}
+
+/// Makes a call; whether the word names one of these.
+pub fn call(alloc: Global, line: &str, told: &mut Block) -> Result<bool, Memory> {
+    let (word, rest) = word_and_rest(line);
+    match word {
+        "rule" => tell_rule(alloc, rest, told)?,
+        "rows" => copy_rows(alloc, rest, told)?,
+        _ => return Ok(false),
+    }
+    Ok(true)
+}
