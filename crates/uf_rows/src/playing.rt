@@ -1,6 +1,8 @@
 //! The parts of a transcript, and their lines.
 
 use crate::caching::play_cached;
+use crate::devices::act_on_devices;
+use crate::host_calls::{add_by, get_within};
 use crate::setting::{feed_world, set, tell_blocks};
 use crate::trying::{Tries, fail_all, repeat, stop_all, try_prefixes, try_within};
 use crate::words::{Word, word_of};
@@ -49,6 +51,23 @@ fn do_word<X: BlockHash, N: NameHash, L: Ledger>(
     Ok(true)
 }
 
+// Does what a word asks of a host.
+fn do_host<X: BlockHash, N: NameHash, L: Ledger>(
+    world: &mut World<X>,
+    word: Word,
+    rest: &str,
+    told: &mut Block,
+    touches: &mut Steps<L>,
+) -> Result<bool, Memory> {
+    match word {
+        Word::Devices => act_on_devices::<X, N, L>(world, rest, told, touches)?,
+        Word::AddBy => add_by::<X, N, L>(world, rest, told, touches)?,
+        Word::GetWithin => get_within(world, rest, told, touches)?,
+        _ => return Ok(false),
+    }
+    Ok(true)
+}
+
 // Does what a line after a `!` asks for.
 fn change<X: BlockHash, N: NameHash, L: Ledger>(
     world: &mut World<X>,
@@ -59,7 +78,9 @@ fn change<X: BlockHash, N: NameHash, L: Ledger>(
     let (word, rest) = word_of(line);
     let is_done = match word {
         Some(word) => {
-            do_word::<X, N, L>(world, word, rest, told, touches)? || set(world, word, line, rest)?
+            do_word::<X, N, L>(world, word, rest, told, touches)?
+                || do_host::<X, N, L>(world, word, rest, told, touches)?
+                || set(world, word, line, rest)?
         }
         None => feed_world(world, line)?,
     };

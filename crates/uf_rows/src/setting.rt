@@ -24,7 +24,7 @@ pub fn feed_world<X: BlockHash>(world: &mut World<X>, line: &str) -> Result<bool
 // A change of the streams; whether the word asks for one.
 fn set_streams<X: BlockHash>(world: &mut World<X>, word: Word, rest: &str) -> bool {
     match word {
-        Word::Room => world.streams.room = number_of(rest).min(65536) as usize,
+        Word::Room => world.streams.room = number_of(rest).min(1048576) as usize,
         Word::InputFails => world.streams.input_fails = Some(number_of(rest).saturating_sub(1)),
         Word::OutputFails => world.streams.output_fails = Some(number_of(rest).saturating_sub(1)),
         Word::ErrorsFail => world.streams.errors_fail = Some(number_of(rest).saturating_sub(1)),
