@@ -16,16 +16,6 @@ const STEP: usize = 1048576;
 /// The root of a file of `mib` MiB, whose CAR was written `times` times.
 pub fn exported<L: Ledger>(
     alloc: Global,
-    mib: u64,
-    times: u64,
-    touches: &mut Steps<L>,
-) -> Option<Cid> {
-    let mut store = MemStore::<Sha256Hash>::new(alloc);
-    export_all(alloc, &mut store, mib, times, touches)
-}
-
-fn export_all<L: Ledger>(
-    alloc: Global,
     store: &mut MemStore<Sha256Hash>,
     mib: u64,
     times: u64,
@@ -47,16 +37,6 @@ fn room_for(alloc: Global, mib: u64) -> Option<MemSink> {
 
 /// The root of a file of `mib` MiB, whose CAR was written, and read into a new store where that is asked for.
 pub fn imported<L: Ledger>(
-    alloc: Global,
-    mib: u64,
-    is_read: bool,
-    touches: &mut Steps<L>,
-) -> Option<Cid> {
-    let mut store = MemStore::<Sha256Hash>::new(alloc);
-    import_from(alloc, &mut store, mib, is_read, touches)
-}
-
-fn import_from<L: Ledger>(
     alloc: Global,
     store: &mut MemStore<Sha256Hash>,
     mib: u64,

@@ -55,16 +55,6 @@ fn built<L: Ledger>(
 /// again.
 pub fn edited<L: Ledger>(
     alloc: Global,
-    names: u64,
-    edits: u64,
-    touches: &mut Steps<L>,
-) -> Option<Cid> {
-    let mut store = MemStore::<Sha256Hash>::new(alloc);
-    edit_all(alloc, &mut store, names, edits, touches)
-}
-
-fn edit_all<L: Ledger>(
-    alloc: Global,
     store: &mut MemStore<Sha256Hash>,
     names: u64,
     edits: u64,
@@ -121,27 +111,17 @@ fn one_edit<L: Ledger>(
 /// The same, each time by building the directory of all its names anew.
 pub fn built_anew<L: Ledger>(
     alloc: Global,
+    store: &mut MemStore<Sha256Hash>,
     names: u64,
     edits: u64,
     touches: &mut Steps<L>,
 ) -> Option<Cid> {
     let pairs = empty_files(alloc, names)?;
     let more = empty_files(alloc, names.saturating_add(1))?;
-    build_in_turn(alloc, &pairs, &more, edits / 2, touches)
+    build_in_turn(alloc, store, (&pairs, &more), edits / 2, touches)
 }
 
 fn build_in_turn<L: Ledger>(
-    alloc: Global,
-    pairs: &Pairs,
-    more: &Pairs,
-    times: u64,
-    touches: &mut Steps<L>,
-) -> Option<Cid> {
-    let mut store = MemStore::<Sha256Hash>::new(alloc);
-    build_all(alloc, &mut store, (pairs, more), times, touches)
-}
-
-fn build_all<L: Ledger>(
     alloc: Global,
     store: &mut MemStore<Sha256Hash>,
     both: (&Pairs, &Pairs),

@@ -65,16 +65,6 @@ fn feed_all<L: Ledger>(
 /// The root of a file of `mib` MiB after n bytes were written into it, each at another place.
 pub fn edited<L: Ledger>(
     alloc: Global,
-    mib: u64,
-    edits: u64,
-    touches: &mut Steps<L>,
-) -> Option<Cid> {
-    let mut store = MemStore::<Sha256Hash>::new(alloc);
-    edit_all(alloc, &mut store, mib, edits, touches)
-}
-
-fn edit_all<L: Ledger>(
-    alloc: Global,
     store: &mut MemStore<Sha256Hash>,
     mib: u64,
     edits: u64,

@@ -19,7 +19,7 @@ use std::sync::ledger::{Blank, Ledger};
 use uf_cid::{Cid, Sha256Hash};
 use uf_disk::{DiskStore, StdSink, StdSource};
 use uf_edge::{Sent, Sink, Source, write_all};
-use uf_store::Steps;
+use uf_store::{MemStore, Steps};
 
 // What is measured in memory.
 #[derive(Clone, Copy)]
@@ -54,7 +54,7 @@ enum Asked {
 }
 
 fn main(rt: HostRuntime) -> ExitCode {
-    let Some(asked) = asked(&rt) else {
+    let Some(asked) = asked_of(&rt) else {
         return ExitCode::from(2);
     };
     let mut store = DiskStore::<Sha256Hash, _>::new(rt.alloc(), rt);
@@ -74,7 +74,7 @@ fn main(rt: HostRuntime) -> ExitCode {
 }
 
 // What the words after the program's name ask for.
-fn asked<R: Env + AllocGlobal>(rt: &R) -> Option<Asked> {
+fn asked_of<R: Env + AllocGlobal>(rt: &R) -> Option<Asked> {
     let mut words = Vec::new(rt.alloc());
     for word in env::args(rt).ok()?.skip(1) {
         words.push(word).ok()?;
@@ -159,7 +159,7 @@ fn act<L: Ledger, R: Files + RandomSource, I: Source, O: Sink>(
     }
 }
 
-// Does a task in memory, and gives the root that it ends with.
+// Does a task over a store in memory, and gives the root that it ends with.
 fn measured<L: Ledger>(
     alloc: Global,
     task: Task,
@@ -167,12 +167,24 @@ fn measured<L: Ledger>(
     times: u64,
     touches: &mut Steps<L>,
 ) -> Option<Cid> {
+    let mut store = MemStore::<Sha256Hash>::new(alloc);
+    measured_over(alloc, &mut store, task, size, times, touches)
+}
+
+fn measured_over<L: Ledger>(
+    alloc: Global,
+    store: &mut MemStore<Sha256Hash>,
+    task: Task,
+    size: u64,
+    times: u64,
+    touches: &mut Steps<L>,
+) -> Option<Cid> {
     match task {
-        Task::Directory => dirs::edited(alloc, size, times, touches),
-        Task::DirectoryAnew => dirs::built_anew(alloc, size, times, touches),
-        Task::File => files::edited(alloc, size, times, touches),
-        Task::Export => cars::exported(alloc, size, times, touches),
-        Task::Import => cars::imported(alloc, size, times > 0, touches),
+        Task::Directory => dirs::edited(alloc, store, size, times, touches),
+        Task::DirectoryAnew => dirs::built_anew(alloc, store, size, times, touches),
+        Task::File => files::edited(alloc, store, size, times, touches),
+        Task::Export => cars::exported(alloc, store, size, times, touches),
+        Task::Import => cars::imported(alloc, store, size, times > 0, touches),
         Task::Hash => cars::hashed(alloc, size, times),
     }
 }
