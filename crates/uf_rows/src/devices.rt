@@ -2,9 +2,9 @@
 ghost use Rattle.std.specs.Prelude.{◌≡◌, true};
 ghost use Rattle.uf_edge.specs.Counts.{Counts};
 
-use crate::world::{Ends, World, words_in};
+use crate::world::{Ends, World};
 use std::sync::ledger::Ledger;
-use uf_cid::{Block, BlockHash, Memory};
+use uf_cid::{BlockHash, Memory};
 use uf_edge::{Fetched, Host, Kind, Listing, MemSink, MemSource, Put};
 use uf_murmur::NameHash;
 use uf_store::{MemStore, Steps};
@@ -67,7 +67,8 @@ impl Host for Devices {
     ghost rooted = { λ h. tt };
 }
 
-fn act_over<X: BlockHash, N: NameHash, L: Ledger>(
+/// Does a command over a host of devices alone.
+pub fn act_on_devices<X: BlockHash, N: NameHash, L: Ledger>(
     world: &mut World<X>,
     words: &[String],
     ends: &mut Ends,
@@ -87,17 +88,4 @@ fn act_over<X: BlockHash, N: NameHash, L: Ledger>(
     );
     let wrote = before != world.store.writes();
     world.note(ends, status, wrote)
-}
-
-/// Does a command over a host of devices alone, and reports what came of it.
-pub fn act_on_devices<X: BlockHash, N: NameHash, L: Ledger>(
-    world: &mut World<X>,
-    line: &str,
-    told: &mut Block,
-    touches: &mut Steps<L>,
-) -> Result<(), Memory> {
-    let words = words_in(world.alloc, line)?;
-    let mut ends = world.take_ends()?;
-    act_over::<X, N, L>(world, &words, &mut ends, touches)?;
-    world.tell(b"", told)
 }
