@@ -18,13 +18,23 @@ fn empty_file() -> Entry {
 // The pairs of empty files under n names, in order.
 fn empty_files(alloc: Global, names: u64) -> Option<Pairs> {
     let mut pairs = Pairs::new(alloc);
+    add_all(alloc, &mut pairs, names)?;
+    Some(pairs)
+}
+
+fn add_all(alloc: Global, pairs: &mut Pairs, names: u64) -> Option<()> {
     for n in 0..names {
         let text = format!(in alloc; "n{n:08}").ok()?;
-        let name = Name::parse(alloc, &text).ok()?;
-        let entry = empty_file();
-        pairs.push(Pair { name, entry }).ok()?;
+        add_file(alloc, pairs, &text)?;
     }
-    Some(pairs)
+    Some(())
+}
+
+// Puts an empty file behind the pairs.
+fn add_file(alloc: Global, pairs: &mut Pairs, text: &str) -> Option<()> {
+    let name = Name::parse(alloc, text).ok()?;
+    let entry = empty_file();
+    pairs.push(Pair { name, entry }).ok()
 }
 
 // The entry of the directory of these pairs.
@@ -45,18 +55,40 @@ fn built<L: Ledger>(
 /// again.
 pub fn edited<L: Ledger>(
     alloc: Global,
+    store: &mut MemStore<Sha256Hash>,
     names: u64,
     edits: u64,
     touches: &mut Steps<L>,
 ) -> Option<Cid> {
-    let mut store = MemStore::<Sha256Hash>::new(alloc);
-    let mut root = built(alloc, &mut store, &empty_files(alloc, names)?, touches)?;
+    let mut root = built_of(alloc, store, names, touches)?;
     for n in 0..edits {
         let text = format!(in alloc; "x{}", n / 2).ok()?;
-        let name = Name::parse(alloc, &text).ok()?;
-        root = one_edit(alloc, &mut store, &root, &name, n % 2 == 0, touches)?;
+        root = edit_named(alloc, store, &root, &text, n % 2 == 0, touches)?;
     }
     Some(root.cid)
+}
+
+// The entry of the directory of n names.
+fn built_of<L: Ledger>(
+    alloc: Global,
+    store: &mut MemStore<Sha256Hash>,
+    names: u64,
+    touches: &mut Steps<L>,
+) -> Option<Entry> {
+    let pairs = empty_files(alloc, names)?;
+    built(alloc, store, &pairs, touches)
+}
+
+fn edit_named<L: Ledger>(
+    alloc: Global,
+    store: &mut MemStore<Sha256Hash>,
+    root: &Entry,
+    text: &str,
+    is_put: bool,
+    touches: &mut Steps<L>,
+) -> Option<Entry> {
+    let name = Name::parse(alloc, text).ok()?;
+    one_edit(alloc, store, root, &name, is_put, touches)
 }
 
 // The entry of a directory with an empty file more under a name, or without the name.
@@ -79,17 +111,28 @@ fn one_edit<L: Ledger>(
 /// The same, each time by building the directory of all its names anew.
 pub fn built_anew<L: Ledger>(
     alloc: Global,
+    store: &mut MemStore<Sha256Hash>,
     names: u64,
     edits: u64,
     touches: &mut Steps<L>,
 ) -> Option<Cid> {
-    let mut store = MemStore::<Sha256Hash>::new(alloc);
     let pairs = empty_files(alloc, names)?;
     let more = empty_files(alloc, names.saturating_add(1))?;
-    let mut root = built(alloc, &mut store, &pairs, touches)?;
-    for _ in 0..edits / 2 {
-        let _ = built(alloc, &mut store, &more, touches)?;
-        root = built(alloc, &mut store, &pairs, touches)?;
+    build_in_turn(alloc, store, (&pairs, &more), edits / 2, touches)
+}
+
+fn build_in_turn<L: Ledger>(
+    alloc: Global,
+    store: &mut MemStore<Sha256Hash>,
+    both: (&Pairs, &Pairs),
+    times: u64,
+    touches: &mut Steps<L>,
+) -> Option<Cid> {
+    let (pairs, more) = both;
+    let mut root = built(alloc, store, pairs, touches)?;
+    for _ in 0..times {
+        let _ = built(alloc, store, more, touches)?;
+        root = built(alloc, store, pairs, touches)?;
     }
     Some(root.cid)
 }

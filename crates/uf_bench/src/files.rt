@@ -25,29 +25,57 @@ pub fn built<L: Ledger>(
     mib: u64,
     touches: &mut Steps<L>,
 ) -> Option<Entry> {
-    let mut builder = Builder::new(alloc, Profile::usual());
     let rest = zeros(alloc, ZEROS)?;
-    for n in 0..mib.saturating_mul(4) {
-        builder.feed(store, &n.to_le_bytes(), touches).ok()?;
-        builder.feed(store, rest.as_slice(), touches).ok()?;
-    }
+    built_of(
+        alloc,
+        store,
+        rest.as_slice(),
+        mib.saturating_mul(4),
+        touches,
+    )
+}
+
+// The entry of a file of n pieces, each of which is its number and these bytes.
+fn built_of<L: Ledger>(
+    alloc: Global,
+    store: &mut MemStore<Sha256Hash>,
+    rest: &[u8],
+    count: u64,
+    touches: &mut Steps<L>,
+) -> Option<Entry> {
+    let mut builder = Builder::new(alloc, Profile::usual());
+    feed_all(&mut builder, store, rest, count, touches)?;
     builder.finish(store, touches).ok()
+}
+
+fn feed_all<L: Ledger>(
+    builder: &mut Builder,
+    store: &mut MemStore<Sha256Hash>,
+    rest: &[u8],
+    count: u64,
+    touches: &mut Steps<L>,
+) -> Option<()> {
+    for n in 0..count {
+        builder.feed(store, &n.to_le_bytes(), touches).ok()?;
+        builder.feed(store, rest, touches).ok()?;
+    }
+    Some(())
 }
 
 /// The root of a file of `mib` MiB after n bytes were written into it, each at another place.
 pub fn edited<L: Ledger>(
     alloc: Global,
+    store: &mut MemStore<Sha256Hash>,
     mib: u64,
     edits: u64,
     touches: &mut Steps<L>,
 ) -> Option<Cid> {
-    let mut store = MemStore::<Sha256Hash>::new(alloc);
-    let mut root = built(alloc, &mut store, mib, touches)?;
+    let mut root = built(alloc, store, mib, touches)?;
     let p = Profile::usual();
     let length = mib.saturating_mul(1048576).max(1);
     for n in 0..edits {
         let place = n.wrapping_mul(40503 * 65537) % length;
-        root = write_at(alloc, &mut store, &p, &root, place, b"x", touches).ok()?;
+        root = write_at(alloc, store, &p, &root, place, b"x", touches).ok()?;
     }
     Some(root.cid)
 }

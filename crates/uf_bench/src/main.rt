@@ -18,24 +18,31 @@ use std::rt::Env;
 use std::sync::ledger::{Blank, Ledger};
 use uf_cid::{Cid, Sha256Hash};
 use uf_disk::{DiskStore, StdSink, StdSource};
-use uf_edge::{Sink, Source};
-use uf_store::Steps;
+use uf_edge::{Sent, Sink, Source, write_all};
+use uf_store::{MemStore, Steps};
 
-// What is measured.
-#[derive(Drop)]
+// What is measured in memory.
+#[derive(Clone, Copy)]
 enum Task {
     // `dir NAMES EDITS`: a name put into a directory of NAMES names and taken out again, in turn.
-    Directory(u64, u64),
+    Directory,
     // `dir-anew NAMES EDITS`: the same, each time by building the directory anew.
-    DirectoryAnew(u64, u64),
+    DirectoryAnew,
     // `file MIB EDITS`: single bytes written into a file of MIB MiB.
-    File(u64, u64),
+    File,
     // `export MIB TIMES`: the CAR of a file of MIB MiB, written TIMES times.
-    Export(u64, u64),
+    Export,
     // `import MIB TIMES`: such a CAR written, and read into a new store where TIMES isn't 0.
-    Import(u64, u64),
+    Import,
     // `hash MIB TIMES`: the pieces of such a file hashed and copied, beside which the two stand.
-    Hash(u64, u64),
+    Hash,
+}
+
+// What is asked for.
+#[derive(Clone, Copy)]
+enum Asked {
+    // A task with its two numbers.
+    Memory(Task, u64, u64),
     // `read CID`: a whole file written to the output.
     Read(Cid),
     // `survey CID`: all that is below a CID visited.
@@ -47,7 +54,7 @@ enum Task {
 }
 
 fn main(rt: HostRuntime) -> ExitCode {
-    let Some(task) = asked(&rt) else {
+    let Some(asked) = asked_of(&rt) else {
         return ExitCode::from(2);
     };
     let mut store = DiskStore::<Sha256Hash, _>::new(rt.alloc(), rt);
@@ -55,7 +62,7 @@ fn main(rt: HostRuntime) -> ExitCode {
     let mut output = StdSink::new(rt.stdout());
     match done::<Brand, _, _, _>(
         rt.alloc(),
-        &task,
+        &asked,
         &mut store,
         &mut input,
         &mut output,
@@ -67,34 +74,58 @@ fn main(rt: HostRuntime) -> ExitCode {
 }
 
 // What the words after the program's name ask for.
-fn asked<R: Env + AllocGlobal>(rt: &R) -> Option<Task> {
-    let mut words = env::args(rt).ok()?.skip(1);
-    let name = words.next()?;
-    let first = words.next()?;
-    match name.as_str() {
-        "read" => return Some(Task::Read(Cid::parse(&first).ok()?)),
-        "survey" => return Some(Task::Survey(Cid::parse(&first).ok()?)),
-        "car-out" => return Some(Task::CarOut(Cid::parse(&first).ok()?)),
-        "car-in" => return Some(Task::CarIn),
-        _ => {}
+fn asked_of<R: Env + AllocGlobal>(rt: &R) -> Option<Asked> {
+    let mut words = Vec::new(rt.alloc());
+    for word in env::args(rt).ok()?.skip(1) {
+        words.push(word).ok()?;
     }
-    let size = first.parse::<u64>().ok()?;
-    let edits = words.next()?.parse::<u64>().ok()?;
-    match name.as_str() {
-        "dir" => Some(Task::Directory(size, edits)),
-        "dir-anew" => Some(Task::DirectoryAnew(size, edits)),
-        "file" => Some(Task::File(size, edits)),
-        "export" => Some(Task::Export(size, edits)),
-        "import" => Some(Task::Import(size, edits)),
-        "hash" => Some(Task::Hash(size, edits)),
+    asked_by(&words)
+}
+
+fn asked_by(words: &[String]) -> Option<Asked> {
+    let name = words.first()?.as_str();
+    let first = words.get(1)?.as_str();
+    match over_store(name, first) {
+        Some(asked) => Some(asked),
+        None => in_memory(name, first, words.get(2)?.as_str()),
+    }
+}
+
+fn over_store(name: &str, first: &str) -> Option<Asked> {
+    if name == "car-in" {
+        return Some(Asked::CarIn);
+    }
+    let cid = Cid::parse(first).ok()?;
+    match name {
+        "read" => Some(Asked::Read(cid)),
+        "survey" => Some(Asked::Survey(cid)),
+        "car-out" => Some(Asked::CarOut(cid)),
         _ => None,
     }
 }
 
-// Does a task, and writes what it prints.
+fn in_memory(name: &str, size: &str, times: &str) -> Option<Asked> {
+    let size = size.parse::<u64>().ok()?;
+    let times = times.parse::<u64>().ok()?;
+    Some(Asked::Memory(task_of(name)?, size, times))
+}
+
+fn task_of(name: &str) -> Option<Task> {
+    match name {
+        "dir" => Some(Task::Directory),
+        "dir-anew" => Some(Task::DirectoryAnew),
+        "file" => Some(Task::File),
+        "export" => Some(Task::Export),
+        "import" => Some(Task::Import),
+        "hash" => Some(Task::Hash),
+        _ => None,
+    }
+}
+
+// Does what is asked for, and writes what it prints.
 fn done<L: Ledger, R: Files + RandomSource, I: Source, O: Sink>(
     alloc: Global,
-    task: &Task,
+    asked: &Asked,
     store: &mut DiskStore<Sha256Hash, R>,
     input: &mut I,
     output: &mut O,
@@ -105,30 +136,68 @@ fn done<L: Ledger, R: Files + RandomSource, I: Source, O: Sink>(
     requires some { 0 < blank.parts }
 {
     let mut touches = Steps::<L>::new(blank);
-    let t = &mut touches;
-    let root = match task {
-        Task::Directory(names, edits) => dirs::edited(alloc, *names, *edits, t)?,
-        Task::DirectoryAnew(names, edits) => dirs::built_anew(alloc, *names, *edits, t)?,
-        Task::File(mib, edits) => files::edited(alloc, *mib, *edits, t)?,
-        Task::Export(mib, times) => cars::exported(alloc, *mib, *times, t)?,
-        Task::Import(mib, times) => cars::imported(alloc, *mib, *times > 0, t)?,
-        Task::Hash(mib, times) => cars::hashed(alloc, *mib, *times)?,
-        Task::Read(cid) => return files::written(alloc, store, cid, output, t),
-        Task::Survey(cid) => return files::surveyed(alloc, store, cid, t),
-        Task::CarOut(cid) => return cars::written(alloc, store, cid, output, t),
-        Task::CarIn => return cars::taken_in(alloc, store, input, t),
-    };
-    print_line(output, &root)
+    act(alloc, asked, store, input, output, &mut touches)
+}
+
+fn act<L: Ledger, R: Files + RandomSource, I: Source, O: Sink>(
+    alloc: Global,
+    asked: &Asked,
+    store: &mut DiskStore<Sha256Hash, R>,
+    input: &mut I,
+    output: &mut O,
+    touches: &mut Steps<L>,
+) -> Option<()> {
+    match asked {
+        Asked::Memory(task, size, times) => {
+            let root = measured(alloc, *task, *size, *times, touches)?;
+            print_line(output, &root)
+        }
+        Asked::Read(cid) => files::written(alloc, store, cid, output, touches),
+        Asked::Survey(cid) => files::surveyed(alloc, store, cid, touches),
+        Asked::CarOut(cid) => cars::written(alloc, store, cid, output, touches),
+        Asked::CarIn => cars::taken_in(alloc, store, input, touches),
+    }
+}
+
+// Does a task over a store in memory, and gives the root that it ends with.
+fn measured<L: Ledger>(
+    alloc: Global,
+    task: Task,
+    size: u64,
+    times: u64,
+    touches: &mut Steps<L>,
+) -> Option<Cid> {
+    let mut store = MemStore::<Sha256Hash>::new(alloc);
+    measured_over(alloc, &mut store, task, size, times, touches)
+}
+
+fn measured_over<L: Ledger>(
+    alloc: Global,
+    store: &mut MemStore<Sha256Hash>,
+    task: Task,
+    size: u64,
+    times: u64,
+    touches: &mut Steps<L>,
+) -> Option<Cid> {
+    match task {
+        Task::Directory => dirs::edited(alloc, store, size, times, touches),
+        Task::DirectoryAnew => dirs::built_anew(alloc, store, size, times, touches),
+        Task::File => files::edited(alloc, store, size, times, touches),
+        Task::Export => cars::exported(alloc, store, size, times, touches),
+        Task::Import => cars::imported(alloc, store, size, times > 0, touches),
+        Task::Hash => cars::hashed(alloc, size, times),
+    }
 }
 
 // Writes a CID and the end of its line.
 fn print_line<O: Sink>(output: &mut O, cid: &Cid) -> Option<()> {
-    match uf_edge::write_all(output, &cid.text()) {
-        uf_edge::Sent::Done => {}
-        uf_edge::Sent::Failed => return None,
-    }
-    match uf_edge::write_all(output, b"\n") {
-        uf_edge::Sent::Done => Some(()),
-        uf_edge::Sent::Failed => None,
+    print(output, &cid.text())?;
+    print(output, b"\n")
+}
+
+fn print<O: Sink>(output: &mut O, bytes: &[u8]) -> Option<()> {
+    match write_all(output, bytes) {
+        Sent::Done => Some(()),
+        Sent::Failed => None,
     }
 }

@@ -1,9 +1,7 @@
 //! Commands over a store with a cache.
 
-use crate::playing::play_lines;
 use crate::setting::feed_world;
 use crate::world::{Ends, World, words_in};
-use std::alloc::Global;
 use std::mem;
 use std::sync::ledger::Ledger;
 use uf_cache::Cached;
@@ -101,36 +99,18 @@ fn play_over<X: BlockHash, N: NameHash, L: Ledger>(
     play_behind::<X, N, L>(world, &mut store, part, sheet, touches)
 }
 
-fn play_halves<X: BlockHash, N: NameHash, L: Ledger>(
+/// Does the lines after a line `cache N` over a cache of N entries; the number comes first.
+pub fn play_cached<X: BlockHash, N: NameHash, L: Ledger>(
     world: &mut World<X>,
     title: &str,
-    lines: &str,
+    second: &str,
     sheet: &mut Sheet,
     touches: &mut Steps<L>,
 ) -> Result<(), Memory> {
-    let (first, second) = lines.split_once("\n! cache ").unwrap_or((lines, ""));
     let (entries, rest) = second.split_once('\n').unwrap_or((second, ""));
-    play_lines::<X, N, L>(world, title, first, sheet, touches)?;
     sheet.count_line();
     let line = format!(in world.alloc; "! cache {entries}")?;
     sheet.tell(line.as_str())?;
-    play_over::<X, N, L>(
-        world,
-        number_of(entries).min(1024) as usize,
-        (title, rest),
-        sheet,
-        touches,
-    )
-}
-
-/// Does a part with a line `cache N`: the lines after it over a cache of N entries.
-pub fn play_cached<X: BlockHash, N: NameHash, L: Ledger>(
-    alloc: Global,
-    title: &str,
-    lines: &str,
-    sheet: &mut Sheet,
-    touches: &mut Steps<L>,
-) -> Result<(), Memory> {
-    let mut world = World::<X>::over(alloc, MemStore::new(alloc));
-    play_halves::<X, N, L>(&mut world, title, lines, sheet, touches)
+    let entries = number_of(entries).min(1024) as usize;
+    play_over::<X, N, L>(world, entries, (title, rest), sheet, touches)
 }

@@ -6,15 +6,25 @@ use uf_cid::{Memory, Text};
 use uf_edge::MemHost;
 use uf_testing::{calls, number_and_rest, plant};
 
+// Puts a folder there, and another name after its path.
+fn plant_next(
+    alloc: Global,
+    host: &mut MemHost,
+    path: &mut Text,
+    name: &str,
+) -> Result<(), Memory> {
+    plant(alloc, host, path.as_str(), None)?;
+    path.push_str("/")?;
+    path.push_str(name)
+}
+
 // Puts folders of one name into each other, this many.
 fn plant_folders(alloc: Global, host: &mut MemHost, rest: &str) -> Result<(), Memory> {
     let (count, name) = number_and_rest(rest);
     let mut path = Text::new(alloc);
     path.push_str(name)?;
     for _ in 0..count {
-        plant(alloc, host, path.as_str(), None)?;
-        path.push_str("/")?;
-        path.push_str(name)?;
+        plant_next(alloc, host, &mut path, name)?;
     }
     Ok(())
 }

@@ -6,6 +6,8 @@
 ghost use Rattle.std.specs.Prelude.{◌≡◌, ◌<◌};
 
 mod caching;
+mod devices;
+mod host_calls;
 mod hosting;
 mod outcome;
 mod playing;

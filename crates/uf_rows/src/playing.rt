@@ -1,10 +1,11 @@
 //! The parts of a transcript, and their lines.
 
 use crate::caching::play_cached;
+use crate::host_calls::{add_by, get_within};
 use crate::setting::{feed_world, set, tell_blocks};
 use crate::trying::{Tries, fail_all, repeat, stop_all, try_prefixes, try_within};
 use crate::words::{Word, word_of};
-use crate::world::{World, act_and_tell, act_in_batch};
+use crate::world::{Way, World, act_and_tell};
 use std::alloc::Global;
 use std::sync::ledger::Ledger;
 use uf_cid::{Block, BlockHash, Memory, Sha256Hash, Sum8Hash, Text};
@@ -24,7 +25,29 @@ fn set_asks<X: BlockHash>(world: &mut World<X>, word: Word, rest: &str) -> Resul
     world.asks.push_str("\n")
 }
 
-// Does what a word asks for.
+// Does what a word asks for, where it is done again and again.
+fn try_word<X: BlockHash, N: NameHash, L: Ledger>(
+    world: &mut World<X>,
+    word: Word,
+    rest: &str,
+    tries: &mut Tries,
+    told: &mut Block,
+    touches: &mut Steps<L>,
+) -> Result<bool, Memory> {
+    match word {
+        Word::Repeat => repeat::<X, N, L>(world, rest, tries, told, touches)?,
+        Word::Within => try_within::<X, N, L>(world, rest, tries, told, touches)?,
+        Word::Fails => fail_all::<X, N, L>(world, rest, tries, told, touches)?,
+        Word::Stops => stop_all::<X, N, L>(world, rest, tries, told, touches)?,
+        Word::Rooms | Word::Fronts => {
+            try_prefixes::<X, N, L>(world, (word, rest), tries, told, touches)?
+        }
+        _ => return Ok(false),
+    }
+    Ok(true)
+}
+
+// Does what a word asks for once.
 fn do_word<X: BlockHash, N: NameHash, L: Ledger>(
     world: &mut World<X>,
     word: Word,
@@ -32,19 +55,19 @@ fn do_word<X: BlockHash, N: NameHash, L: Ledger>(
     told: &mut Block,
     touches: &mut Steps<L>,
 ) -> Result<bool, Memory> {
-    let mut tries = Tries::new(world.alloc);
     match word {
         Word::Asks | Word::And => set_asks(world, word, rest)?,
         Word::Blocks => tell_blocks(world, told)?,
-        Word::Repeat => repeat::<X, N, L>(world, rest, &mut tries, told, touches)?,
-        Word::Within => try_within::<X, N, L>(world, rest, &mut tries, told, touches)?,
-        Word::Fails => fail_all::<X, N, L>(world, rest, &mut tries, told, touches)?,
-        Word::Stops => stop_all::<X, N, L>(world, rest, &mut tries, told, touches)?,
-        Word::Rooms | Word::Fronts => {
-            try_prefixes::<X, N, L>(world, (word, rest), &mut tries, told, touches)?
+        Word::Batch => {
+            act_and_tell::<X, N, L>(world, Way::Batch(number_of(rest)), "", told, touches)?
         }
-        Word::Batch => act_in_batch::<X, N, L>(world, number_of(rest), told, touches)?,
-        _ => return Ok(false),
+        Word::Devices => act_and_tell::<X, N, L>(world, Way::Devices, rest, told, touches)?,
+        Word::AddBy => add_by::<X, N, L>(world, rest, told, touches)?,
+        Word::GetWithin => get_within(world, rest, told, touches)?,
+        _ => {
+            let mut tries = Tries::new(world.alloc);
+            return try_word::<X, N, L>(world, word, rest, &mut tries, told, touches);
+        }
     }
     Ok(true)
 }
@@ -59,7 +82,8 @@ fn change<X: BlockHash, N: NameHash, L: Ledger>(
     let (word, rest) = word_of(line);
     let is_done = match word {
         Some(word) => {
-            do_word::<X, N, L>(world, word, rest, told, touches)? || set(world, word, line, rest)?
+            do_word::<X, N, L>(world, word, rest, told, touches)?
+                || set(world, word, line, rest)?
         }
         None => feed_world(world, line)?,
     };
@@ -78,14 +102,14 @@ fn step<X: BlockHash, N: NameHash, L: Ledger>(
 ) -> Result<(), Memory> {
     let (mark, rest) = line.split_once(' ').unwrap_or((line, ""));
     match mark {
-        "$" => act_and_tell::<X, N, L>(world, rest, told, touches),
+        "$" => act_and_tell::<X, N, L>(world, Way::Command, rest, told, touches),
         "!" => change::<X, N, L>(world, rest, told, touches),
         _ => Ok(()),
     }
 }
 
-/// Does the lines of a part.
-pub fn play_lines<X: BlockHash, N: NameHash, L: Ledger>(
+// Does lines.
+fn play_lines<X: BlockHash, N: NameHash, L: Ledger>(
     world: &mut World<X>,
     title: &str,
     lines: &str,
@@ -100,6 +124,23 @@ pub fn play_lines<X: BlockHash, N: NameHash, L: Ledger>(
     sheet.settle(title)
 }
 
+// Does the lines of a part: those after a line `cache N` over a cache.
+fn play_over<X: BlockHash, N: NameHash, L: Ledger>(
+    world: &mut World<X>,
+    title: &str,
+    lines: &str,
+    sheet: &mut Sheet,
+    touches: &mut Steps<L>,
+) -> Result<(), Memory> {
+    match lines.split_once("\n! cache ") {
+        None => play_lines::<X, N, L>(world, title, lines, sheet, touches),
+        Some((first, second)) => {
+            play_lines::<X, N, L>(world, title, first, sheet, touches)?;
+            play_cached::<X, N, L>(world, title, second, sheet, touches)
+        }
+    }
+}
+
 fn play<X: BlockHash, N: NameHash, L: Ledger>(
     alloc: Global,
     title: &str,
@@ -108,7 +149,7 @@ fn play<X: BlockHash, N: NameHash, L: Ledger>(
     touches: &mut Steps<L>,
 ) -> Result<(), Memory> {
     let mut world = World::<X>::over(alloc, MemStore::new(alloc));
-    play_lines::<X, N, L>(&mut world, title, lines, sheet, touches)
+    play_over::<X, N, L>(&mut world, title, lines, sheet, touches)
 }
 
 // Does a part, whose first line says of what kind the store is.
@@ -121,11 +162,10 @@ fn play_part<L: Ledger>(
     let title = part.lines().next().unwrap_or("");
     let (kind, _) = title.split_once(':').unwrap_or((title, ""));
     match kind {
-        "@ sha256 letters" => play::<Sha256Hash, FirstEight, L>(alloc, title, part, sheet, touches),
-        "@ sum8 murmur3" => play::<Sum8Hash, Murmur3, L>(alloc, title, part, sheet, touches),
-        "@ sha256 letters cached" => {
-            play_cached::<Sha256Hash, FirstEight, L>(alloc, title, part, sheet, touches)
+        "@ sha256 letters" | "@ sha256 letters cached" => {
+            play::<Sha256Hash, FirstEight, L>(alloc, title, part, sheet, touches)
         }
+        "@ sum8 murmur3" => play::<Sum8Hash, Murmur3, L>(alloc, title, part, sheet, touches),
         _ => play::<Sha256Hash, Murmur3, L>(alloc, title, part, sheet, touches),
     }
 }

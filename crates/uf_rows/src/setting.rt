@@ -24,7 +24,7 @@ pub fn feed_world<X: BlockHash>(world: &mut World<X>, line: &str) -> Result<bool
 // A change of the streams; whether the word asks for one.
 fn set_streams<X: BlockHash>(world: &mut World<X>, word: Word, rest: &str) -> bool {
     match word {
-        Word::Room => world.streams.room = number_of(rest).min(65536) as usize,
+        Word::Room => world.streams.room = number_of(rest).min(1048576) as usize,
         Word::InputFails => world.streams.input_fails = Some(number_of(rest).saturating_sub(1)),
         Word::OutputFails => world.streams.output_fails = Some(number_of(rest).saturating_sub(1)),
         Word::ErrorsFail => world.streams.errors_fail = Some(number_of(rest).saturating_sub(1)),
@@ -49,16 +49,35 @@ fn set_failure<X: BlockHash>(world: &mut World<X>, word: Word, rest: &str) -> Re
     Ok(true)
 }
 
-// A directory with links of these letters to a CID.
-fn directory(alloc: Global, letters: &str, cid: &Cid) -> Result<Block, Memory> {
-    let mut node = Block::new(alloc);
+// Puts links of these letters to a CID after the bytes of a node.
+fn add_links(node: &mut Block, letters: &str, cid: &Cid) -> Result<(), Memory> {
     for letter in letters.as_bytes() {
         node.extend(b"\x12\x2b\x0a\x24")?;
         node.extend(&cid.to_binary())?;
         node.extend(&[0x12, 1, *letter, 0x18, 0])?;
     }
+    Ok(())
+}
+
+// A directory with links of these letters to a CID.
+fn directory(alloc: Global, letters: &str, cid: &Cid) -> Result<Block, Memory> {
+    let mut node = Block::new(alloc);
+    add_links(&mut node, letters, cid)?;
     node.extend(b"\x0a\x02\x08\x01")?;
     Ok(node)
+}
+
+// Holds a node, and then is the directory with links of these letters to it.
+fn nest_once<X: BlockHash>(
+    alloc: Global,
+    store: &mut MemStore<X>,
+    letters: &str,
+    node: &mut Block,
+) -> Result<(), Memory> {
+    plant_node(alloc, store, node.as_slice(), node.as_slice())?;
+    let cid = Cid::of::<X>(Codec::DagPb, node.as_slice());
+    *node = directory(alloc, letters, &cid)?;
+    Ok(())
 }
 
 // Holds nested directories, each with links of these letters to the next one; the last one is empty.
@@ -66,9 +85,7 @@ fn nest<X: BlockHash>(alloc: Global, store: &mut MemStore<X>, rest: &str) -> Res
     let (count, letters) = number_and_rest(rest);
     let mut node = block_of(alloc, b"\x0a\x02\x08\x01")?;
     for _ in 1..count {
-        plant_node(alloc, store, node.as_slice(), node.as_slice())?;
-        let cid = Cid::of::<X>(Codec::DagPb, node.as_slice());
-        node = directory(alloc, letters, &cid)?;
+        nest_once(alloc, store, letters, &mut node)?;
     }
     plant_node(alloc, store, node.as_slice(), node.as_slice())
 }

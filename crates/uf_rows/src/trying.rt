@@ -1,12 +1,12 @@
 //! Commands that are done again and again: with each call that may fail, after each stop, over each output and input.
 
 use crate::words::Word;
-use crate::world::{World, act, act_and_tell};
+use crate::world::{Way, World, act, act_and_tell};
 use std::alloc::Global;
 use std::sync::ledger::Ledger;
 use uf_cid::{Block, BlockHash, Memory};
 use uf_murmur::NameHash;
-use uf_store::{CallKind, Steps};
+use uf_store::{CallKind, MemStore, Steps};
 use uf_testing::{ROOMY, block_of, number_and_rest};
 
 /// The answers of a command that is done again and again: that of now, the one before, and the one where nothing was
@@ -152,7 +152,7 @@ fn ask<X: BlockHash, N: NameHash, L: Ledger>(
 ) -> Result<(), Memory> {
     let asks = world.asks.copy()?;
     for line in asks.as_str().lines() {
-        act_and_tell::<X, N, L>(world, line, told, touches)?;
+        act_and_tell::<X, N, L>(world, Way::Command, line, told, touches)?;
     }
     Ok(())
 }
@@ -168,7 +168,7 @@ fn follow<X: BlockHash, N: NameHash, L: Ledger>(
     copy.streams = ROOMY;
     ask::<X, N, L>(copy, told, touches)?;
     copy.input = world.input.copy()?;
-    act_and_tell::<X, N, L>(copy, words, told, touches)?;
+    act_and_tell::<X, N, L>(copy, Way::Command, words, told, touches)?;
     ask::<X, N, L>(copy, told, touches)
 }
 
@@ -182,7 +182,7 @@ fn try_over<X: BlockHash, N: NameHash, L: Ledger>(
 ) -> Result<(), Memory> {
     prepare(world, copy, bar)?;
     tries.begin();
-    act::<X, N, L>(copy, words, touches)?;
+    act::<X, N, L>(copy, Way::Command, words, touches)?;
     copy.tell(tries.output.as_slice(), &mut tries.now)?;
     match bar {
         Bar::Fails(_, _) if !tries.is_whole() => {
@@ -201,6 +201,40 @@ fn try_over<X: BlockHash, N: NameHash, L: Ledger>(
     }
 }
 
+// What is done over a copy of a world: a command with this in its way, or nothing but asking.
+#[derive(Clone, Copy)]
+enum Doing<'a> {
+    Command(Bar, &'a str),
+    Asking,
+}
+
+fn do_over<X: BlockHash, N: NameHash, L: Ledger>(
+    world: &World<X>,
+    copy: &mut World<X>,
+    doing: Doing<'_>,
+    tries: &mut Tries,
+    touches: &mut Steps<L>,
+) -> Result<(), Memory> {
+    match doing {
+        Doing::Command(bar, words) => {
+            try_over::<X, N, L>(world, copy, bar, words, tries, touches)
+        }
+        Doing::Asking => stop_over::<X, N, L>(world, copy, tries, touches),
+    }
+}
+
+// Does something over a copy with this store.
+fn do_with<X: BlockHash, N: NameHash, L: Ledger>(
+    world: &World<X>,
+    store: MemStore<X>,
+    doing: Doing<'_>,
+    tries: &mut Tries,
+    touches: &mut Steps<L>,
+) -> Result<(), Memory> {
+    let mut copy = World::over(world.alloc, store);
+    do_over::<X, N, L>(world, &mut copy, doing, tries, touches)
+}
+
 // Does a command with this in its way over a store that holds the same.
 fn try_once<X: BlockHash, N: NameHash, L: Ledger>(
     world: &World<X>,
@@ -209,8 +243,8 @@ fn try_once<X: BlockHash, N: NameHash, L: Ledger>(
     tries: &mut Tries,
     touches: &mut Steps<L>,
 ) -> Result<(), Memory> {
-    let mut copy = World::over(world.alloc, world.store_copied()?);
-    try_over::<X, N, L>(world, &mut copy, bar, words, tries, touches)
+    let store = world.store_copied()?;
+    do_with::<X, N, L>(world, store, Doing::Command(bar, words), tries, touches)
 }
 
 // Has each call of a kind fail, until the command is done: each answer once.
@@ -313,8 +347,8 @@ fn stop_once<X: BlockHash, N: NameHash, L: Ledger>(
     tries: &mut Tries,
     touches: &mut Steps<L>,
 ) -> Result<(), Memory> {
-    let mut left = World::over(world.alloc, world.store_after(at, is_lossy)?);
-    stop_over::<X, N, L>(world, &mut left, tries, touches)
+    let store = world.store_after(at, is_lossy)?;
+    do_with::<X, N, L>(world, store, Doing::Asking, tries, touches)
 }
 
 fn stop_over<X: BlockHash, N: NameHash, L: Ledger>(
@@ -337,7 +371,7 @@ pub fn stop_all<X: BlockHash, N: NameHash, L: Ledger>(
     touches: &mut Steps<L>,
 ) -> Result<(), Memory> {
     let before = world.store.writes();
-    act_and_tell::<X, N, L>(world, words, told, touches)?;
+    act_and_tell::<X, N, L>(world, Way::Command, words, told, touches)?;
     tries.begin_kind();
     let first = before.min(world.store.writes());
     for at in first..world.store.writes().saturating_add(1) {
@@ -358,7 +392,7 @@ fn act_numbered<X: BlockHash, N: NameHash, L: Ledger>(
 ) -> Result<(), Memory> {
     let line = format!(in world.alloc; "{words}{number:02}")?;
     tries.begin();
-    act_and_tell::<X, N, L>(world, line.as_str(), &mut tries.now, touches)
+    act_and_tell::<X, N, L>(world, Way::Command, line.as_str(), &mut tries.now, touches)
 }
 
 /// Does a command with each number up to this one after it, in two digits where it has fewer: each answer once.

@@ -34,6 +34,9 @@ pub enum Word {
     Folder,
     Folders,
     HostFails,
+    Devices,
+    AddBy,
+    GetWithin,
     // Commands that are done again and again.
     Asks,
     And,
@@ -46,7 +49,7 @@ pub enum Word {
     Batch,
 }
 
-const WORDS: [(&str, Word); 35] = [
+const WORDS: [(&str, Word); 38] = [
     ("room", Word::Room),
     ("input-fails", Word::InputFails),
     ("output-fails", Word::OutputFails),
@@ -73,6 +76,9 @@ const WORDS: [(&str, Word); 35] = [
     ("folder", Word::Folder),
     ("folders", Word::Folders),
     ("host-fails", Word::HostFails),
+    ("devices", Word::Devices),
+    ("add-by", Word::AddBy),
+    ("get-within", Word::GetWithin),
     ("asks", Word::Asks),
     ("and", Word::And),
     ("repeat", Word::Repeat),

@@ -1,6 +1,7 @@
 //! A store, a host and streams in memory, and commands over them. What owns several of them leaves at one place, since
 //! each way out of it has to be proved.
 
+use crate::devices::act_on_devices;
 use crate::hosting::host_with;
 use crate::outcome::tell_status;
 use std::alloc::Global;
@@ -78,16 +79,8 @@ impl<X: BlockHash> World<X> {
 
     /// The streams of the next command. They take the input.
     pub fn take_ends(&mut self) -> Result<Ends, Memory> {
-        let streams = self.streams;
-        let output = sink(self.alloc, streams.room, streams.output_fails)?;
-        let errors = sink(self.alloc, 65536, streams.errors_fail)?;
-        let fails = calls(self.alloc, streams.input_fails)?;
         let input = mem::replace(&mut self.input, Block::new(self.alloc));
-        Ok(Ends {
-            input: MemSource::new(input, 65536, fails),
-            output,
-            errors,
-        })
+        ends_of(self.alloc, &self.streams, input)
     }
 
     /// Notes what came of a command.
@@ -110,6 +103,19 @@ impl<X: BlockHash> World<X> {
     }
 }
 
+// The streams of a command that has this input.
+fn ends_of(alloc: Global, streams: &Streams, input: Block) -> Result<Ends, Memory> {
+    let fails = calls(alloc, streams.input_fails)?;
+    let input = MemSource::new(input, 65536, fails);
+    let output = sink(alloc, streams.room, streams.output_fails)?;
+    let errors = sink(alloc, 65536, streams.errors_fail)?;
+    Ok(Ends {
+        input,
+        output,
+        errors,
+    })
+}
+
 // The places below this one.
 fn places(alloc: Global, end: u64) -> Result<Calls, Memory> {
     let mut places = Calls::new(alloc);
@@ -119,35 +125,64 @@ fn places(alloc: Global, end: u64) -> Result<Calls, Memory> {
     Ok(places)
 }
 
-// A line in which `{N TEXT}` stands for N times that text.
-fn expanded(alloc: Global, line: &str) -> Result<Text, Memory> {
-    let (front, rest) = line.split_once('{').unwrap_or((line, ""));
-    let (inner, behind) = rest.split_once('}').unwrap_or((rest, ""));
-    let (count, text) = number_and_rest(inner);
-    let mut whole = Text::new(alloc);
-    whole.push_str(front)?;
+// Puts a text after another one, n times.
+fn push_times(whole: &mut Text, text: &str, count: u64) -> Result<(), Memory> {
     for _ in 0..count {
         whole.push_str(text)?;
     }
-    whole.push_str(behind)?;
-    Ok(whole)
+    Ok(())
+}
+
+// Puts a line after a text, in which `{N TEXT}` stands for N times that text.
+fn push_expanded(whole: &mut Text, line: &str) -> Result<(), Memory> {
+    let (front, rest) = line.split_once('{').unwrap_or((line, ""));
+    let (inner, behind) = rest.split_once('}').unwrap_or((rest, ""));
+    let (count, text) = number_and_rest(inner);
+    whole.push_str(front)?;
+    push_times(whole, text, count)?;
+    whole.push_str(behind)
 }
 
 /// The words of a line, in which `{N TEXT}` stands for N times that text.
 pub fn words_in(alloc: Global, line: &str) -> Result<Vec<String>, Memory> {
-    let line = expanded(alloc, line)?;
-    words_of(alloc, line.as_str())
+    let mut whole = Text::new(alloc);
+    push_expanded(&mut whole, line)?;
+    words_of(alloc, whole.as_str())
 }
 
-/// Does a command.
+/// How words are done: as a command, over a host of devices alone, or not at all, but the lines of the input as a batch
+/// of at most this many bytes.
+#[derive(Clone, Copy)]
+pub enum Way {
+    Command,
+    Devices,
+    Batch(u64),
+}
+
+/// Does a line in a way.
 pub fn act<X: BlockHash, N: NameHash, L: Ledger>(
     world: &mut World<X>,
+    way: Way,
     line: &str,
     touches: &mut Steps<L>,
 ) -> Result<(), Memory> {
     let words = words_in(world.alloc, line)?;
     let mut ends = world.take_ends()?;
-    act_over::<X, N, L>(world, &words, &mut ends, touches)
+    act_by::<X, N, L>(world, way, &words, &mut ends, touches)
+}
+
+fn act_by<X: BlockHash, N: NameHash, L: Ledger>(
+    world: &mut World<X>,
+    way: Way,
+    words: &[String],
+    ends: &mut Ends,
+    touches: &mut Steps<L>,
+) -> Result<(), Memory> {
+    match way {
+        Way::Command => act_over::<X, N, L>(world, words, ends, touches),
+        Way::Devices => act_on_devices::<X, N, L>(world, words, ends, touches),
+        Way::Batch(limit) => batch_over::<X, N, L>(world, limit, ends, touches),
+    }
 }
 
 fn act_over<X: BlockHash, N: NameHash, L: Ledger>(
@@ -171,26 +206,15 @@ fn act_over<X: BlockHash, N: NameHash, L: Ledger>(
     world.note(ends, status, wrote)
 }
 
-/// Does a command, and reports what came of it.
+/// Does a line in a way, and reports what came of it.
 pub fn act_and_tell<X: BlockHash, N: NameHash, L: Ledger>(
     world: &mut World<X>,
+    way: Way,
     line: &str,
     told: &mut Block,
     touches: &mut Steps<L>,
 ) -> Result<(), Memory> {
-    act::<X, N, L>(world, line, touches)?;
-    world.tell(b"", told)
-}
-
-/// Does the lines of the input as a batch of at most this many bytes, and reports what came of it.
-pub fn act_in_batch<X: BlockHash, N: NameHash, L: Ledger>(
-    world: &mut World<X>,
-    limit: u64,
-    told: &mut Block,
-    touches: &mut Steps<L>,
-) -> Result<(), Memory> {
-    let mut ends = world.take_ends()?;
-    batch_over::<X, N, L>(world, limit, &mut ends, touches)?;
+    act::<X, N, L>(world, way, line, touches)?;
     world.tell(b"", told)
 }
 

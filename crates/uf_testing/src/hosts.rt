@@ -6,11 +6,7 @@ ghost use Rattle.uf_edge.specs.Host.{front, is_member_name};
 use crate::streams::block_of;
 use std::alloc::Global;
 use uf_cid::{Memory, Text};
-use uf_edge::{Calls, Host, Kind, MemHost, Put};
-
-/// What is in a host: for each the folder that it is in (none is the working folder), its name, and the bytes of a
-/// file or none of a folder.
-pub type HostNode<'a> = (&'a str, &'a str, Option<&'a [u8]>);
+use uf_edge::{Host, Kind, MemHost};
 
 /// Whether bytes may be the name of a member.
 pub fn is_member(name: &[u8]) -> bool
@@ -25,13 +21,6 @@ fn has_slash(name: &[u8]) -> bool
     name.iter().any(|byte| *byte == b'/')
 }
 
-fn is_done(put: Put) -> Result<(), Memory> {
-    match put {
-        Put::Done => Ok(()),
-        _ => Err(Memory),
-    }
-}
-
 /// The path of a member of a folder.
 pub fn path_of(alloc: Global, folder: &str, name: &str) -> Result<Text, Memory>
     ensures { IfOk result (λ text. text ≡ front folder.now ++ name.now) }
@@ -43,44 +32,6 @@ pub fn path_of(alloc: Global, folder: &str, name: &str) -> Result<Text, Memory>
     }
     path.push_str(name)?;
     Ok(path)
-}
-
-/// Several texts in a row.
-pub fn text_of(alloc: Global, parts: &[&str]) -> Result<Text, Memory> {
-    let mut text = Text::new(alloc);
-    for part in parts {
-        text.push_str(part)?;
-    }
-    Ok(text)
-}
-
-/// Puts a file or a folder into the working folder.
-pub fn put_first(host: &mut MemHost, name: &str, content: Option<&[u8]>) -> Result<(), Memory>
-    requires { IsTrue (is_member_name name.now) }
-{
-    match (host.kind(name), content) {
-        (Kind::Absent, Some(bytes)) => is_done(host.append(name, bytes)),
-        (Kind::Absent, None) => is_done(host.make_folder(name)),
-        _ => Err(Memory),
-    }
-}
-
-/// Puts a file or a folder into a folder.
-pub fn put_in(
-    alloc: Global,
-    host: &mut MemHost,
-    folder: &str,
-    name: &str,
-    content: Option<&[u8]>,
-) -> Result<(), Memory>
-    requires { IsTrue (is_member_name name.now) }
-{
-    let path = path_of(alloc, folder, name)?;
-    match (host.kind(folder), host.kind(path.as_str()), content) {
-        (Kind::Folder, Kind::Absent, Some(bytes)) => is_done(host.append(path.as_str(), bytes)),
-        (Kind::Folder, Kind::Absent, None) => is_done(host.make_folder(path.as_str())),
-        _ => Err(Memory),
-    }
 }
 
 // Puts a file or a folder into the working folder, without a call that writes.
@@ -142,21 +93,4 @@ pub fn plant(
         name,
         content,
     )
-}
-
-/// A host that has these, and fails at these calls, counted from its first.
-pub fn host_of(alloc: Global, nodes: &[HostNode<'_>], fail: Calls) -> Result<MemHost, Memory> {
-    let mut host = MemHost::new(alloc, fail);
-    for node in nodes {
-        let (folder, name, content) = *node;
-        if !is_member(name.as_bytes()) {
-            return Err(Memory);
-        }
-        if folder.is_empty() {
-            put_first(&mut host, name, content)?;
-        } else {
-            put_in(alloc, &mut host, folder, name, content)?;
-        }
-    }
-    Ok(host)
 }

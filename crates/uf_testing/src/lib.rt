@@ -10,7 +10,7 @@ mod telling;
 mod words;
 
 pub use feeding::{bytes_of, feed};
-pub use hosts::{HostNode, host_of, is_member, path_of, plant, put_first, put_in, text_of};
+pub use hosts::{is_member, path_of, plant};
 pub use sheet::{Sheet, begins_row, ends_part};
 pub use streams::{ROOMY, Streams, block_of, calls, plant_node, sink, source};
 pub use telling::{say, say_digits, tell_bytes, tell_count};

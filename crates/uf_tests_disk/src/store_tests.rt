@@ -311,6 +311,10 @@ fn path_of<R: Files>(alloc: Global, files: &R, block: &[u8]) -> io::Result<Strin
 fn files_a<R: Files>(alloc: Global, files: &R) -> io::Result<()> {
     let folder = own_folder(alloc, b"a")?;
     fs::create_dir_all(files, folder.as_str())?;
+    moves_a(alloc, files)
+}
+
+fn moves_a<R: Files>(alloc: Global, files: &R) -> io::Result<()> {
     let late = late_path(alloc, b"a")?;
     if fs::exists(files, late.as_str())? {
         fs::rename(files, late.as_str(), filed_path(alloc, b"a")?.as_str())?;
@@ -423,7 +427,24 @@ fn goes<'a, X: BlockHash, L: Ledger, R: Files + RandomSource>(
     Ok(true)
 }
 
-// How many of the steps go as they should.
+// How many of the steps go as they should over a store.
+fn count_over<'a, X: BlockHash, L: Ledger, R: Files + RandomSource>(
+    alloc: Global,
+    files: &'a R,
+    store: &mut DiskStore<X, &'a R>,
+    steps: &[StoreCall],
+    touches: &mut Steps<L>,
+) -> io::Result<usize> {
+    let mut count = 0usize;
+    for step in steps {
+        if goes(alloc, files, store, step, touches)? {
+            count = count.saturating_add(1);
+        }
+    }
+    Ok(count)
+}
+
+// How many of the steps go as they should over a store anew.
 fn count_right<X: BlockHash, L: Ledger, R: Files + RandomSource>(
     alloc: Global,
     files: &R,
@@ -431,13 +452,7 @@ fn count_right<X: BlockHash, L: Ledger, R: Files + RandomSource>(
     touches: &mut Steps<L>,
 ) -> io::Result<usize> {
     let mut store = DiskStore::<X, &R>::new(alloc, files);
-    let mut count = 0usize;
-    for step in steps {
-        if goes(alloc, files, &mut store, step, touches)? {
-            count = count.saturating_add(1);
-        }
-    }
-    Ok(count)
+    count_over(alloc, files, &mut store, steps, touches)
 }
 
 fn are_right<X: BlockHash, L: Ledger, R: Files + RandomSource>(
@@ -449,6 +464,21 @@ fn are_right<X: BlockHash, L: Ledger, R: Files + RandomSource>(
     Ok(count_right::<X, L, R>(alloc, files, steps, touches)? == steps.len())
 }
 
+// Whether one of three writes fails exactly where the call of the machine with this number does.
+fn writes_or_fails<L: Ledger, R: Files + RandomSource>(
+    alloc: Global,
+    files: &R,
+    number: u64,
+    touches: &mut Steps<L>,
+) -> io::Result<bool> {
+    let failing = FailingFiles::new(files, number);
+    let count = count_right::<Sha256Hash, L, FailingFiles<'_, R>>(
+        alloc, &failing, &WRITES, touches,
+    )?;
+    let wanted = if failing.has_failed() { 2 } else { 3 };
+    Ok(count == wanted)
+}
+
 // Where the call of the machine with this number fails, one of three writes fails, no file is torn, and the writes can
 // be done again. Where there are fewer calls, none does.
 fn survives<L: Ledger, R: Files + RandomSource>(
@@ -458,14 +488,10 @@ fn survives<L: Ledger, R: Files + RandomSource>(
     touches: &mut Steps<L>,
 ) -> io::Result<bool> {
     fs::remove_dir_all(&(files, alloc), ".unixfs")?;
-    let failing = FailingFiles::new(files, number);
-    let count = count_right::<Sha256Hash, L, FailingFiles<'_, R>>(
-        alloc, &failing, &WRITES, touches,
-    )?;
-    let wanted = if failing.has_failed() { 2 } else { 3 };
+    let writes = writes_or_fails(alloc, files, number, touches)?;
     let torn = count_right::<Sha256Hash, L, R>(alloc, files, &TORN, touches)?;
     let again = are_right::<Sha256Hash, L, R>(alloc, files, &AGAIN, touches)?;
-    Ok(count == wanted && torn == 0 && again)
+    Ok(writes && torn == 0 && again)
 }
 
 // The first call of the machine whose failure isn't survived.
@@ -482,6 +508,28 @@ fn first_lost<L: Ledger, R: Files + RandomSource>(
     Ok(None)
 }
 
+// What a sweep of a store anew answers that keeps the block `a`.
+fn swept_over<R: Files + RandomSource>(alloc: Global, files: &R) -> io::Result<Swept> {
+    let mut store = DiskStore::<Sha256Hash, &R>::new(alloc, files);
+    sweeps(alloc, &mut store, &[b"a"])
+}
+
+// Whether a sweep fails exactly where the call of the machine with this number does.
+fn sweeps_or_fails<R: Files + RandomSource>(
+    alloc: Global,
+    files: &R,
+    number: u64,
+) -> io::Result<bool> {
+    let failing = FailingFiles::new(files, number);
+    let swept = swept_over(alloc, &failing)?;
+    let wanted = if failing.has_failed() {
+        Swept::Failed
+    } else {
+        Swept::Done(1)
+    };
+    Ok(swept == wanted)
+}
+
 // Where the call of the machine with this number fails, a sweep fails, and the block that is kept stays.
 fn survives_sweep<L: Ledger, R: Files + RandomSource>(
     alloc: Global,
@@ -490,16 +538,9 @@ fn survives_sweep<L: Ledger, R: Files + RandomSource>(
     touches: &mut Steps<L>,
 ) -> io::Result<bool> {
     let stood = are_right::<Sha256Hash, L, R>(alloc, files, &TWO, touches)?;
-    let failing = FailingFiles::new(files, number);
-    let mut store = DiskStore::<Sha256Hash, &FailingFiles<'_, R>>::new(alloc, &failing);
-    let swept = sweeps(alloc, &mut store, &[b"a"])?;
-    let wanted = if failing.has_failed() {
-        Swept::Failed
-    } else {
-        Swept::Done(1)
-    };
+    let fails = sweeps_or_fails(alloc, files, number)?;
     let stays = are_right::<Sha256Hash, L, R>(alloc, files, &STAYS, touches)?;
-    Ok(stood && swept == wanted && stays)
+    Ok(stood && fails && stays)
 }
 
 // The first call of the machine whose failure a sweep doesn't survive. It looks into 257 folders.
