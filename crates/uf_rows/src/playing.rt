@@ -82,8 +82,7 @@ fn change<X: BlockHash, N: NameHash, L: Ledger>(
     let (word, rest) = word_of(line);
     let is_done = match word {
         Some(word) => {
-            do_word::<X, N, L>(world, word, rest, told, touches)?
-                || set(world, word, line, rest)?
+            do_word::<X, N, L>(world, word, rest, told, touches)? || set(world, word, line, rest)?
         }
         None => feed_world(world, line)?,
     };
