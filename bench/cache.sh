@@ -5,7 +5,7 @@
 # - one command each: `files ls -l` of NAMES directories (1000 if unset), `files stat` of a path eight deep, `cat` of a file of
 #   MIB MiB (64 if unset), which reads each block twice; a leaf isn't kept in memory
 # - a batch of COUNT (100 if unset) such `files stat` lines, beside as many single commands: those share nothing
-# - `files read` of the file, beside the program uf_bench, which reads it with no nodes in memory
+# - `files read` of the file
 # CORE says which core (the last one if unset), FOLDER on which disk (that of the temporary files if unset).
 set -eu
 top=$(cd "$(dirname "$0")/.." && pwd)
@@ -16,7 +16,6 @@ core=${CORE:-$(($(nproc) - 1))}
 program=$top/crates/uf_tool/out/uf_tool
 folder=$(mktemp -d -p "${FOLDER:-${TMPDIR:-/tmp}}")
 trap 'rm -rf "$folder"' EXIT
-(cd "$top/crates/uf_bench" && rt run -- dir 1 0 > /dev/null 2> "$folder/build.log") || true
 cd "$folder"
 mkdir work
 
@@ -32,10 +31,10 @@ head -c "$((mib * 1048576))" /dev/urandom > input
 cid=$(cut -d ' ' -f 2 row)
 sync -f .
 
-taskset -c "$core" python3 - "$program" "$top/crates/uf_bench/out/uf_bench" "$names" "$mib" "$cid" "$deep" "${RUNS:-9}" "${COUNT:-100}" <<'PYTHON'
+taskset -c "$core" python3 - "$program" "$names" "$mib" "$cid" "$deep" "${RUNS:-9}" "${COUNT:-100}" <<'PYTHON'
 import os, re, shutil, statistics, subprocess, sys, time
 
-PROGRAM, ENGINE, NAMES, MIB, CID, DEEP, RUNS, COUNT = *sys.argv[1:7], int(sys.argv[7]), int(sys.argv[8])
+PROGRAM, NAMES, MIB, CID, DEEP, RUNS, COUNT = *sys.argv[1:6], int(sys.argv[6]), int(sys.argv[7])
 OPENED = re.compile(r"open(at)?\(.*/blocks/(../)?b.*O_RDONLY.* = \d")
 
 
@@ -75,6 +74,4 @@ measure(f"cat of {MIB} MiB", [PROGRAM, "cat", CID])
 measure(f"batch of {COUNT} files stat, eight deep", [PROGRAM, "batch"], 1, f"files stat {DEEP}\n".encode() * COUNT)
 measure(f"{COUNT} commands files stat, eight deep", [PROGRAM, "files", "stat", DEEP], COUNT)
 measure(f"files read of {MIB} MiB", [PROGRAM, "files", "read", "/file"])
-if os.path.exists(ENGINE):
-    measure(f"uf_bench read of {MIB} MiB", [ENGINE, "read", CID])
 PYTHON

@@ -11,16 +11,16 @@ use Rattle.uf_command.specs.declared.status.Status.TheVariants as status
 use Rattle.uf_tree.specs.Standing.{Standing, NoHead, BadHead, Stands}
 use Rattle.uf_top.specs.Around.{Around, NoneFalls, SinkSide, SameButErrors}
 use Rattle.uf_top.specs.Batch.{AtLine, Batches, ByMemory, ByReading, EndsSo, Ending, LineCut, LineDone, LinePassed, LinesDone, TooLong, WithInput, without_input}
-use Rattle.uf_top.specs.BatchReplies.{NothingFails, line_world}
+use Rattle.uf_headline.specs.BatchReplies.{NothingFails, line_world}
 use Rattle.uf_top.specs.Endings.{EndsAs}
 use Rattle.uf_top.specs.Naming.{TellsBlocks}
 use Rattle.uf_top.specs.Reply.{reply_to}
-use Rattle.uf_top.proofs.BatchCounts.{cut-counted, ends-counted, fails-first, fails-last, gone-counted, last-counted, lines-counted, whole-counted}
-use Rattle.uf_top.proofs.BatchReplies.{finds-of, held-of, host-same, outside-of, quiet-of}
+use Rattle.uf_headline.proofs.BatchCounts.{cut-counted, ends-counted, fails-first, fails-last, gone-counted, last-counted, lines-counted, whole-counted}
+use Rattle.uf_headline.proofs.BatchReplies.{finds-of, held-of, host-same, outside-of, quiet-of}
 use Rattle.uf_top.proofs.Counted.{none-then, rose-not-stood, but-errors, with_sinks}
 use Rattle.uf_cid.specs.declared.cid.Cid.{Cid}
 use Rattle.uf_top.proofs.Pins.{noted-pins}
-use Rattle.uf_top.proofs.Ran.{line-ran}
+use Rattle.uf_headline.proofs.Ran.{line-ran}
 use Rattle.uf_headline.specs.Batched.{AreOfLines, asked_by, outside_line, with_last, with_word}
 use Rattle.uf_headline.specs.History.{History, IsDone, Step, step_of, told_after, told_before}
 use Rattle.uf_headline.proofs.Doing.{after_step, step-stands}

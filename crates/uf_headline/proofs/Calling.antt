@@ -29,15 +29,15 @@ use Rattle.uf_store.specs.declared.store.Write.{Write}
 use Rattle.uf_top.specs.Around.{HasOutside, StandsOrRose, StaysQuiet}
 use Rattle.uf_top.specs.Endings.{may_move}
 use Rattle.uf_top.specs.Losing.{EndsOver}
-use Rattle.uf_top.proofs.Ran.{words_need}
+use Rattle.uf_headline.proofs.Ran.{words_need}
 use Rattle.uf_top.specs.Naming.{FindsWorld, StandsNamed, StaysNamed}
 use Rattle.uf_top.specs.Outcomes.{EachStop, IsSafeFor, LeavesEither, LeavesTree}
 use Rattle.uf_top.specs.Reply.{Outside, in_world, reply_to, world_of}
 use Rattle.uf_top.specs.Shapes.{WritesFor, is_done}
-use Rattle.uf_top.proofs.BatchReplies.{if-needed}
+use Rattle.uf_headline.proofs.BatchReplies.{if-needed}
 use Rattle.uf_top.proofs.Standings.{stands-kept}
 use Rattle.uf_top.proofs.Notes.{note-text}
-use Rattle.uf_top.proofs.Stopped.{words-end}
+use Rattle.uf_headline.proofs.Stopped.{words-end}
 use Rattle.uf_tree.specs.Standing.{IsHeadNote, Standing, NoHead, BadHead, Stands}
 use Rattle.uf_tree.specs.Tree.{Dir, Entries}
 use Rattle.uf_tree.specs.TreePlan.{blocks as tree_blocks, entry}

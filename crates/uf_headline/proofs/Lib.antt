@@ -12,3 +12,16 @@ pub mod Places
 pub mod Rooted
 pub mod Versions
 pub mod Stepped
+pub mod AddStays
+pub mod BatchCounts
+pub mod BatchFaults
+pub mod BatchHeads
+pub mod BatchLaws
+pub mod BatchReplies
+pub mod BatchStops
+pub mod BatchTexts
+pub mod Firm
+pub mod Heights
+pub mod LineHosts
+pub mod Ran
+pub mod Stopped

@@ -13,11 +13,11 @@ use Rattle.uf_store.specs.Contents.{Told, held_at}
 use Rattle.uf_store.specs.Keeping.{tells}
 use Rattle.uf_top.specs.Around.{Around, StandsOrRose, SameButErrors}
 use Rattle.uf_top.specs.Batch.{AtLine, Batches, ByMemory, ByReading, EndsSo, Ending, LineDone, LinePassed, LinesDone, TooLong, WithInput, without_input}
-use Rattle.uf_top.specs.BatchLines.{AllCanRise}
+use Rattle.uf_headline.specs.BatchLines.{AllCanRise}
 use Rattle.uf_top.specs.Naming.{TellsBlocks}
-use Rattle.uf_top.proofs.LineHosts.{Suits, asks-suits}
+use Rattle.uf_headline.proofs.LineHosts.{Suits, asks-suits}
 use Rattle.uf_top.proofs.Pins.{noted-pins}
-use Rattle.uf_top.proofs.Ran.{line-ran}
+use Rattle.uf_headline.proofs.Ran.{line-ran}
 use Rattle.uf_headline.specs.Batched.{AreCallsOf, IsOfLine, outside_line, with_last}
 use Rattle.uf_headline.specs.Calls.{Calls, IsCall}
 use Rattle.uf_headline.specs.History.{Step, step_of, told_after, told_before}

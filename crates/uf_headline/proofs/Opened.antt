@@ -14,7 +14,7 @@ use Rattle.uf_store.specs.declared.store.Write.TheVariants.{Saved, Synced, Noted
 use Rattle.uf_store.proofs.Holding.{cid_cmp_total}
 use Rattle.uf_store.proofs.Keeping.{same_of}
 use Rattle.uf_store.proofs.Writing.{fold-append}
-use Rattle.uf_top.proofs.Firm.{synced-firm}
+use Rattle.uf_headline.proofs.Firm.{synced-firm}
 use Rattle.uf_headline.specs.Calls.{IsReopened, Saves, SavesAgree}
 
 -- ---- one save

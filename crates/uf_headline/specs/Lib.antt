@@ -6,3 +6,7 @@ pub mod OnHost
 pub mod Places
 pub mod Replies
 pub mod Roots
+pub mod Added
+pub mod BatchLines
+pub mod BatchReplies
+pub mod BatchTexts

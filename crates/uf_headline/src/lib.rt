@@ -1,13 +1,16 @@
 //! The headline: after any list of commands in which nothing fails, the root CID is that of adding the same names and
-//! bytes afresh; and what calls leave that fail, are stopped or meet lost blocks.
+//! bytes afresh; and what calls and batches leave that fail, are stopped or meet lost blocks.
 #![tactic(auto)]
 
+pub mod batch_lines;
 mod batches;
 mod failing;
 mod paths;
 mod replies;
 mod roots;
+pub mod standing;
 mod steps;
+pub mod stops;
 
 ghost use Rattle.std.specs.Prelude.{◌≡◌, ◌⊎◌, ℕ, List, IsTrue};
 ghost use Rattle.uf_cid.specs.declared.cid.Cid.{Cid};

@@ -5,12 +5,12 @@ use crate::world::{Ends, World, words_in};
 use std::mem;
 use std::sync::ledger::Ledger;
 use uf_cache::Cached;
-use uf_cached::run_cached;
 use uf_cid::{Block, BlockHash, Memory};
 use uf_edge::{MemHost, MemSink, MemSource};
 use uf_murmur::NameHash;
 use uf_store::{MemStore, Steps};
 use uf_testing::{Sheet, begins_row, number_of};
+use uf_top::run;
 
 fn act_over<X: BlockHash, N: NameHash, L: Ledger>(
     world: &mut World<X>,
@@ -19,7 +19,7 @@ fn act_over<X: BlockHash, N: NameHash, L: Ledger>(
     ends: &mut Ends,
     touches: &mut Steps<L>,
 ) -> Result<(), Memory> {
-    let status = run_cached::<MemStore<X>, N, MemHost, MemSource, MemSink, MemSink, L>(
+    let status = run::<Cached<MemStore<X>>, N, MemHost, MemSource, MemSink, MemSink, L>(
         world.alloc,
         words,
         store,

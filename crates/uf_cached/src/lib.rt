@@ -1,6 +1,0 @@
-//! One command over a store with a cache.
-#![tactic(auto)]
-
-mod cached;
-
-pub use cached::run_cached;

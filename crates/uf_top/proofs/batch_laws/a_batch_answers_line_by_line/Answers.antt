@@ -1,6 +1,0 @@
-use Rattle.uf_top.proofs.BatchReplies.{batch-replied}
-use Rattle.uf_top.proofs.batch_laws.a_batch_answers_line_by_line.Goals as goal
-
-pub returns : goal.returns
-returns c = λ X N host most limit given before now standing did tells stands fails stood.
-    batch-replied X N host most limit given before now standing did tells stands fails stood

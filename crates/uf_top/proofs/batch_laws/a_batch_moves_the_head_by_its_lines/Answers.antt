@@ -1,5 +1,0 @@
-use Rattle.uf_top.proofs.BatchHeads.{batch-moves}
-use Rattle.uf_top.proofs.batch_laws.a_batch_moves_the_head_by_its_lines.Goals as goal
-
-pub returns : goal.returns
-returns c = batch-moves

@@ -1,5 +1,0 @@
-use Rattle.uf_top.proofs.Firm.{firm-leaves, safe-firm}
-use Rattle.uf_top.proofs.laws.what_is_safe_survives_stops.Goals as goal
-
-pub returns : goal.returns
-returns c = λ X N t p es safe. firm-leaves X N p es t.writes (safe-firm X N p es t safe)
