@@ -1,8 +1,10 @@
 """Light proofs over the built program: of files of each shape, with modes, in directories in one block and in shards; cut at each
-byte, with each byte changed, with sections in another order, too many, twice, or left out; and beside many names.
+byte, with each byte changed, with sections in another order, too many, twice, or left out; beside many names; and of blocks
+that another program would write.
 """
 
 import base64
+import hashlib
 import os
 import subprocess
 import sys
@@ -32,6 +34,38 @@ def cid_text(section):
     """The text of the CID of a section."""
     place = next(at for at, byte in enumerate(section) if byte < 128) + 1
     return "b" + base64.b32encode(section[place:place + 36]).decode().lower().rstrip("=")
+
+
+def number(value):
+    """The varint of a number."""
+    return (b"" if value < 128 else bytes([value & 127 | 128])) + (bytes([value]) if value < 128 else number(value >> 7))
+
+
+def field(key, bytes_in):
+    """A field of bytes in a message."""
+    return bytes([key]) + number(len(bytes_in)) + bytes_in
+
+
+def cid(codec, block):
+    """The bytes of the CID of a block."""
+    return bytes([1, codec, 0x12, 32]) + hashlib.sha256(block).digest()
+
+
+def text_of(bytes_in):
+    """The text of a CID."""
+    return "b" + base64.b32encode(bytes_in).decode().lower().rstrip("=")
+
+
+def link(name, codec, block, size):
+    """A link of a node to a block."""
+    return field(0x12, field(0x0A, cid(codec, block)) + field(0x12, name) + b"\x18" + number(size))
+
+
+def car_of(root, blocks):
+    """The CAR of some blocks, each with its codec, and the CID of a root."""
+    header = bytes.fromhex("a265726f6f747381d82a582500") + cid(0x70, root) + bytes.fromhex("6776657273696f6e01")
+    parts = [cid(codec, block) + block for codec, block in blocks]
+    return b"".join(number(len(part)) + part for part in [header] + parts)
 
 
 class Light:
@@ -155,6 +189,27 @@ class Light:
         words = f"check --absent {self.root('many')} /n300"
         self.expect(words, self.run("nothing", words, car), (0, b"absent /n300\n", ""))
 
+    def foreign(self):
+        """Blocks that are whole, but aren't what this program writes in their roles: nothing is said of such a tree."""
+        data, leaf = field(0x0A, b"\x08\x01"), b"hello"
+        entry = link(b"f", 0x55, leaf, 5)
+        root = data + entry
+        for words in ("check {} /f", "check --absent {} /x"):
+            self.blame(words, root, [(0x70, root), (0x55, leaf)], (0x70, root), "directory")
+        part = field(0x0A, b"\x08\x02" + field(0x12, leaf) + b"\x18\x05")
+        node = 2 * link(b"", 0x70, part, len(part)) + field(0x0A, b"\x08\x02\x18\x0A\x20\x05\x20\x05")
+        root = link(b"f", 0x70, node, len(node) + 2 * len(part)) + data
+        self.blame("check {} /f", root, [(0x70, root), (0x70, node), (0x70, part)], (0x70, part), "node")
+        node = 2 * link(b"", 0x55, leaf, 5) + field(0x0A, b"\x08\x02\x18\x09\x20\x05\x20\x04")
+        root = link(b"f", 0x70, node, len(node) + 10) + data
+        self.blame("check {} /f", root, [(0x70, root), (0x70, node), (0x55, leaf)], (0x55, leaf), "leaf")
+
+    def blame(self, words, root, blocks, bad, role):
+        """A check of a CAR ends with the block that isn't canonical in its role, and writes nothing."""
+        line = f"error: bad block {text_of(cid(*bad))} {role}\n"
+        words = words.format(text_of(cid(0x70, root)))
+        self.expect(words, self.run("nothing", words, car_of(root, blocks)), (5, b"", line))
+
     def all(self):
         """All of them."""
         self.shapes()
@@ -162,6 +217,7 @@ class Light:
         self.arranged()
         self.refused()
         self.many()
+        self.foreign()
 
 
 def main():

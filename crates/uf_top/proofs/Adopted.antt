@@ -298,7 +298,7 @@ module _ (X : List ℕ → List ℕ) (N : List ℕ → ℕ) where
         → ReadsHead a.told (Err f) → ShownOpening X (IsBadInHead X N a.told) {A = Mfs} (Err f) a m → CountsUp (tree_fault {A = Mfs} (Err f)) t0 t1 → Does X N (Adopt source dest) (Err why) (around a l i h w t0 side er) (around m l i h w t1 side er2)
     graft-unopened t1 f why is opens lost head cause up =
         let plain = grafting-opening source dest a.told l l i f why is in
-        let quiet = quiet-of (λ text. ⊤) false why plain.other in
+        let quiet = quiet-of (λ (text : List ℕ). text ≡ []) false why plain.other in
         record {
           answers = λ world finds input quiet2. answered world
               (not-opened X N world.standing (adopt_reply X N world.held source dest) f why m.told is (opens world.standing finds.stands quiet2.store.faults) (stands-same X N a.told m.told world.standing told finds.stands));
@@ -377,7 +377,7 @@ module _ (X : List ℕ → List ℕ) (N : List ℕ → ℕ) where
       pub graft-stopped : (why : Refusal) → GraftsIn X N tree source dest (Err why) m b t1 t2 → Does X N (Adopt source dest) (Err why) (around a l i h w t0 side er) (around b l i h w t2 side er2)
       graft-stopped why g =
           let plain = grafting-of source dest a.told l l i why g.kinds in
-          let quiet = quiet-of (λ text. ⊤) false why plain.other in
+          let quiet = quiet-of (λ (text : List ℕ). text ≡ []) false why plain.other in
           record {
             answers = λ world finds input quiet2. answers-opened (Err why) g world.standing world.held (outside_of world) finds.stands finds.held quiet2.store;
             lost = λ p es rows held bytes named tells heights input quiet2. more-over (Err why) g p es held bytes (over-opened (Err why) g p es held named tells quiet2.store);
@@ -411,7 +411,7 @@ module _ (X : List ℕ → List ℕ) (N : List ℕ → ℕ) where
         lost = λ p es rows held bytes named tells heights input quiet2. more-over (Ok tt) g p es held bytes (over-opened (Ok tt) g p es held named tells quiet2.store);
         unprinted = λ world after. absurd cc;
         prefix = λ world finds input room. nothing-printed (reply X N (Adopt source dest) world).ends h h refl;
-        prints = ([], tt, after-nothing h);
+        prints = ([], refl, after-nothing h);
         kinds = tt;
         ready = tt;
         rule = tt;

@@ -32,13 +32,13 @@ use Rattle.uf_command.specs.Kinds.{fault_behind}
 use Rattle.uf_top.specs.Reply.{looked, tree_reply}
 use Rattle.uf_edits.specs.Edits.{edited_by, IsBadAsked, EditsInMemory}
 use Rattle.uf_command.specs.declared.types.Ask.{Ask}
-use Rattle.uf_command.specs.declared.types.Ask.TheVariants.{Edit as Edits}
+use Rattle.uf_command.specs.declared.types.Ask.TheVariants.{Ls, Stat, Edit as Edits}
 use Rattle.uf_command.specs.declared.types.Command.TheVariants.{At}
 use Rattle.uf_command.specs.declared.types.Edit.{Edit}
 use Rattle.uf_command.specs.declared.types.Refusal.{Refusal}
 use Rattle.uf_top.specs.Answering.{Answers}
 use Rattle.uf_top.specs.Bounds.{ask_touches}
-use Rattle.uf_top.specs.Causes.{IsMade, RefusesInTree}
+use Rattle.uf_top.specs.Causes.{IsAskText, IsMade, RefusesInTree}
 use Rattle.uf_top.specs.Losing.{AnswersOver, ask_needs}
 use Rattle.uf_top.specs.Naming.{StaysNamed}
 use Rattle.uf_top.specs.Shapes.{WritesAs, is_ok}
@@ -47,8 +47,14 @@ use Rattle.uf_top.proofs.Finding.{idle-head}
 use Rattle.uf_top.proofs.InTree.{edit-answers, fault-answers, look-answers, move-answers, stays-nothing, stays-same, tree-wants, wants}
 use Rattle.uf_top.proofs.Classed.{made-kinds, tree-kinds}
 use Rattle.uf_top.proofs.Losing.{edit-over, fault-over, look-over, lost-wants, move-over, named-before, named-between, names-kept, names-same}
-use Rattle.uf_top.proofs.Shows.{Shown-tree, bad-way, made-shown, made-touched, tree-touched}
+use Rattle.uf_top.proofs.Shows.{Shown-tree, bad-way, made-shown, made-touched, no-rows, tree-touched}
 use Rattle.uf_top.proofs.Standings.{stands-kept, stands-same}
+
+-- what is asked without a write has a text of which nothing more is said
+looked-text : (ask : Ask) → ask_writes ask ≡ NoWrites → (r : Result (List ℕ) Refusal) → IfOk r (IsAskText ask)
+looked-text (Ls long) looks r = no-rows r
+looked-text Stat looks r = no-rows r
+looked-text (Edits edit) looks r = absurd cc
 
 module _ (X : List ℕ → List ℕ) (N : List ℕ → ℕ) (mfs : Mfs) (path : Path) where
   module _ (a b : Seen) (ask : Ask) (say : Profile → Tree → List ℕ) (looks : ask_writes ask ≡ NoWrites)
@@ -66,6 +72,7 @@ module _ (X : List ℕ → List ℕ) (N : List ℕ → ℕ) (mfs : Mfs) (path : 
       lost = λ p es over named calm. subst (λ r. AnswersOver X N a.told b.told p es (ask_needs X N ask path.names p es) r (Err w)) (sym (reply_is p es))
           (fault-over X N a.told b.told p es (ask_needs X N ask path.names p es) Tree B (P p) path.names (at 0 path.names (Dir es)) (looked (Stands p es) path.names (say p)) f w
           (λ why. refl) is (lost p es over calm.faults) (names-same X N a.told b.told p es told named));
+      text = tt;
       kinds = tree-kinds f w is;
       cause = Shown-tree B X (IsBadInTree X N None mfs.root.cid) (IsBadAsked X N mfs.profile b.told mfs.root.cid) (bad-way X N mfs.profile b.told mfs.root.cid) f w a b is cause;
       touches = λ p es rows over named heights calm. few p es rows over calm.faults;
@@ -88,6 +95,7 @@ module _ (X : List ℕ → List ℕ) (N : List ℕ → ℕ) (mfs : Mfs) (path : 
       lost = λ p es over named calm2. subst (λ given. AnswersOver X N a.told b.told p es (ask_needs X N ask path.names p es) given r) (sym (reply_is p es))
           (look-over X N a.told b.told p es (ask_needs X N ask path.names p es) B M (P p) path.names (say p) (at 0 path.names (Dir es)) found text r
           (lost p es over calm2.faults) (λ t h. says p t over.profile_is h) made (names-same X N a.told b.told p es told named));
+      text = looked-text ask looks r;
       kinds = made-kinds M text r made;
       cause = made-shown M X (IsBadAsked X N mfs.profile b.told mfs.root.cid) text r a b made calm;
       touches = λ p es rows over named heights calm2. few p es rows over calm2.faults;
@@ -113,6 +121,7 @@ module _ (X : List ℕ → List ℕ) (N : List ℕ → ℕ) (mfs : Mfs) (path : 
       lost = λ p es over named calm.
           edit-over X N a.told m.told p es (blocks X N p (Dir es)) (λ fs done. StandsAfter X N a.told m.told (blocks X N p (Dir es)) new p fs) (edited_by X N edit path.names p es)
           f w is (e.lost p es over.profile_is (folder-over p es over named calm)) (names-kept X N a.told m.told p es e.good (saves-head X a.told m.told e.saves) named);
+      text = tt;
       kinds = tree-kinds f w is;
       cause = Shown-tree (Unit {0}) X (IsBadAsked X N mfs.profile m.told mfs.root.cid) (IsBadAsked X N mfs.profile m.told mfs.root.cid) (λ role bytes h. h) f w a m is e.cause;
       touches = λ p es rows over named heights calm. e.touches p rows over.profile_is heights es (folder-over p es over named calm);
@@ -161,6 +170,7 @@ module _ (X : List ℕ → List ℕ) (N : List ℕ → ℕ) (mfs : Mfs) (path : 
                 lost-wants X N a.told b.told p es (blocks X N p (Dir es)) (tree_reply X N (Edits edit) path.names p es) w
                 (tree-wants f w is (wanting (stood-back a.faults m.faults b.faults calm.faults calm2.faults)))
                 (names-kept X N a.told b.told p es both-good head named);
+            text = tt;
             kinds = tree-kinds f w is;
             cause = shown-after X (IsBadAsked X N mfs.profile b.told mfs.root.cid) (fault_behind w) a m b calm shown;
             touches = λ p es rows over named heights calm2.
@@ -188,6 +198,7 @@ module _ (X : List ℕ → List ℕ) (N : List ℕ → ℕ) (mfs : Mfs) (path : 
             let first = first-calm rises.faults rises.clashes calm2 in
             move-over X N a.told b.told p es (blocks X N p (Dir es)) m.told (edited_by X N edit path.names p es) new text
             (e.lost p es over.profile_is (folder-over p es over (named-between X N a.told m.told b.told new.profile new.root.cid p es commits named) first)) nothing commits;
+        text = nothing;
         kinds = tt;
         cause = StaysCalm-trans a m b calm later;
         touches = λ p es rows over named heights calm2.

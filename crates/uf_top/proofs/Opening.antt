@@ -42,7 +42,7 @@ use Rattle.uf_top.proofs.InTree.{init-ready, inits-err, inits-ok, not-opened, op
 use Rattle.uf_top.proofs.Classed.{init-counts, init-kinds, opened-of, opened-ready, opening-kinds, tree-counts}
 use Rattle.uf_top.proofs.Finding.{at-whole, init-looks}
 use Rattle.uf_top.proofs.Losing.{inits-over, named-from, names-kept, names-same, not-inited, opening-over, over-more}
-use Rattle.uf_top.proofs.Shows.{Shown-opening, bad-of-head, bad-of-none, counts-still, no-rows, opening-touched}
+use Rattle.uf_top.proofs.Shows.{Shown-opening, bad-of-head, bad-of-none, counts-still, opening-touched}
 use Rattle.uf_top.proofs.Standings.{stands-kept, stands-same}
 
 -- where nothing was written, a refused ask has written what it may
@@ -106,7 +106,7 @@ module _ (X : List ℕ → List ℕ) (N : List ℕ → ℕ) where
           adds = tt;
           reads = tree-counts r reads kinds;
           host = refl;
-          rows = no-rows r;
+          rows = works.text;
           cause = shown-after X (IsBadIn X N a.told b.told) (refusal_fault r) a m b calm
               (shown-by X (IsBadAsked X N mfs.profile b.told mfs.root.cid) (IsBadIn X N a.told b.told) (refusal_fault r) m b (bad-of-head X N a.told b.told mfs head) works.cause);
           touches = λ p es bytes rows named input heights calm2.
@@ -173,7 +173,7 @@ module _ (X : List ℕ → List ℕ) (N : List ℕ → ℕ) where
       adds = tt;
       reads = counts-still reads;
       host = refl;
-      rows = tt;
+      rows = nothing;
       cause = calm;
       touches = λ q es bytes rows named input heights calm2. tt;
       whole = λ s stands calm2. init-looks (Ok text) tt;

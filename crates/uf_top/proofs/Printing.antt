@@ -264,10 +264,10 @@ some-stays (x ∷ text) false a b some stays = stays
 
 module _ (X : List ℕ → List ℕ) (N : List ℕ → ℕ) where
   text-of : (command : Command) → natures.reads_tree_alone command ≡ true → (told now : Told) (host : HostTold) (l m : streams.Told) (text : List ℕ) → AddsFor X told now (Ok command) (Ok text) l m → IsHostedText X N told now host command text → IsTextOf X N told now host command l text
-  text-of (Init p) alone told now host l m text h rows = tt
+  text-of (Init p) alone told now host l m text h rows = rows
   text-of (Add (adding.Input only_hash)) alone told now host l m text h rows = h
-  text-of (WriteInput how path) alone told now host l m text h rows = tt
-  text-of (At ask path) alone told now host l m text h rows = tt
+  text-of (WriteInput how path) alone told now host l m text h rows = rows
+  text-of (At ask path) alone told now host l m text h rows = rows
   text-of (Read offset count path) alone told now host l m text h rows = tt
   text-of (Prove absent path) alone told now host l m text h rows = tt
   text-of (Cat path) alone told now host l m text h rows = tt
@@ -278,7 +278,7 @@ module _ (X : List ℕ → List ℕ) (N : List ℕ → ℕ) where
   text-of (Export cid) alone told now host l m text h rows = tt
   text-of Import alone told now host l m text h rows = absurd cc
   text-of (Same cid) alone told now host l m text h rows = tt
-  text-of (Adopt source dest) alone told now host l m text h rows = tt
+  text-of (Adopt source dest) alone told now host l m text h rows = absurd cc
   text-of (Gen n seed) alone told now host l m text h rows = absurd cc
   text-of (Pin ask) alone told now host l m text h rows = absurd cc
 

@@ -45,7 +45,7 @@ use Rattle.uf_top.proofs.Classed.{opening-kinds, tree-counts}
 use Rattle.uf_top.proofs.Finding.{Finds, at-whole}
 use Rattle.uf_top.proofs.InTree.{not-opened, opened, opening-ready}
 use Rattle.uf_top.proofs.Losing.{lost-wants, names-same, opening-over}
-use Rattle.uf_top.proofs.Shows.{Shown-opening, bad-of-none, no-rows, opening-touched, shown-any, wants-shown}
+use Rattle.uf_top.proofs.Shows.{Shown-opening, bad-of-none, opening-touched, shown-any, wants-shown}
 use Rattle.uf_top.proofs.Standings.{stands-same, tells-none}
 
 -- what a command at a path may refuse, one that takes the input may refuse
@@ -148,7 +148,7 @@ module _ (how : WriteHow) (path : Path) where
         adds = not-long r l k mk.kinds;
         reads = subst (λ n. Counts (is_read r) i n) (sym (counts.still refl)) mk.reads;
         host = refl;
-        rows = no-rows r;
+        rows = mk.rows;
         cause = mk.cause;
         whole = mk.whole;
         touches = λ p es bytes rows named input heights calm. subst (λ (bs : List ℕ). IfSome (command_touches X N rows bs (WriteInput how path) p es) (λ most. t1 ≤ t0 + most)) (sym (given-is bytes input)) (mk.touches p es [] rows named (λ e. absurd cc) heights calm);

@@ -30,6 +30,8 @@ use Rattle.uf_tree.specs.HeadReading.{head_reads}
 use Rattle.uf_tree.specs.declared.head_fault.HeadFault.{HeadFault}
 use Rattle.uf_tree.specs.declared.profile.Head.{Head}
 use Rattle.uf_tree.specs.declared.profile.Profile.{Profile}
+use Rattle.uf_command.specs.declared.types.Ask.{Ask}
+use Rattle.uf_command.specs.declared.types.Ask.TheVariants.{Edit as Edits}
 use Rattle.uf_command.specs.declared.types.Command.{Command}
 use Rattle.uf_command.specs.declared.types.Refusal.{Refusal}
 use Rattle.uf_command.specs.declared.types.Refusal.TheVariants as refusal
@@ -240,6 +242,11 @@ abbrev pub Stops : {A : Type 0} → Result A Refusal → Type 0
 Stops (Ok a) = ⊤
 Stops (Err (refusal.Store fault)) = IsSaving fault
 Stops (Err why) = ⊥
+
+-- the text of what is asked at a path: an edit prints nothing
+abbrev pub IsAskText : Ask → List ℕ → Type 0
+IsAskText (Edits edit) text = text ≡ []
+IsAskText ask text = ⊤
 
 -- a text that was made, or out of memory
 abbrev pub IsMade : {A : Type 0} → Result (List ℕ) A → Result (List ℕ) Refusal → Type 0

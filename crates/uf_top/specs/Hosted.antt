@@ -1,5 +1,5 @@
 -- What becomes of what a host has at a path, where it is added.
-use Rattle.std.specs.Prelude.{◌≡◌, ℕ, List, Bool, false, IfSome, IsTrue, None, ⊤}
+use Rattle.std.specs.Prelude.{◌≡◌, ℕ, List, [], Bool, false, IfSome, IsTrue, None, ⊤}
 use Rattle.std.specs.declared.result.Result.{Result}
 use Rattle.std.specs.declared.result.Result.TheVariants.{Ok, Err}
 use Rattle.uf_edge.specs.Host.{HostTold}
@@ -13,11 +13,11 @@ use Rattle.uf_tree.specs.Tree.{Tree, is_tree}
 use Rattle.uf_tree.specs.TreePlan as plan
 use Rattle.uf_tree.specs.declared.profile.Profile.{Profile}
 use Rattle.uf_command.specs.declared.types.Command.{Command}
-use Rattle.uf_command.specs.declared.types.Command.TheVariants.{Add}
+use Rattle.uf_command.specs.declared.types.Command.TheVariants.{Init, Add, WriteInput, At}
 use Rattle.uf_command.specs.declared.types.Adding.TheVariants as adding
 use Rattle.uf_command.specs.declared.types.Refusal.{Refusal}
 use Rattle.uf_command.specs.declared.types.Refusal.TheVariants as refusal
-use Rattle.uf_top.specs.Causes.{AddsBy, HoldsUnless}
+use Rattle.uf_top.specs.Causes.{AddsBy, HoldsUnless, IsAskText}
 use Rattle.uf_top.specs.HostTexts.{host_refusal, host_text}
 
 -- the fault is none of a reading of a DAG
@@ -66,10 +66,14 @@ module _ (X : List ℕ → List ℕ) (N : List ℕ → ℕ) where
     pub is : text ≡ host_text X N profile path tree
     pub held : HoldsUnless only_hash now (plan.blocks X N profile tree)
 
-  -- the text of a command that adds from the host is these rows; of another command nothing is said
+  -- the text of a command that adds from the host is these rows, and `init` and edits have none; of another command
+  -- nothing is said
   abbrev pub IsHostedText : (told now : Told) → HostTold → Command → List ℕ → Type 0
   IsHostedText told now host (Add (adding.Host recursive only_hash path)) text =
       AreHostRows told now host recursive only_hash path text
   IsHostedText told now host (Add (adding.HostTo recursive path dest)) text =
       AreHostRows told now host recursive false path text
+  IsHostedText told now host (Init p) text = text ≡ []
+  IsHostedText told now host (WriteInput how path) text = text ≡ []
+  IsHostedText told now host (At ask path) text = IsAskText ask text
   IsHostedText told now host command text = ⊤

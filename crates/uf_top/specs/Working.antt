@@ -35,7 +35,7 @@ use Rattle.uf_top.specs.Answering.{Answers, DoesAnswer, LeavesNext}
 use Rattle.uf_top.specs.Around.{Around, CountsCanRise, HasOutside, RisesFor, SameButErrors, StaysQuiet, TakesHost, UsesHost}
 use Rattle.uf_top.specs.Around.{is_input_read, is_output_write}
 use Rattle.uf_top.specs.Bounds.{ask_touches, command_touches}
-use Rattle.uf_top.specs.Causes.{HeadStays, IsBadIn, IsReady, KeepsHead, is_read, is_write}
+use Rattle.uf_top.specs.Causes.{HeadStays, IsAskText, IsBadIn, IsReady, KeepsHead, is_read, is_write}
 use Rattle.uf_top.specs.Endings.{AddsFor, FindsAll, IsTextOf, PrintsAt, PrintsPart, RuleOf}
 use Rattle.uf_top.specs.Getting.{GetsFor}
 use Rattle.uf_top.specs.Hosted.{IsHostedText}
@@ -155,6 +155,7 @@ module _ (X : List ℕ → List ℕ) (N : List ℕ → ℕ) where
     pub answers : (p : Profile) (es : Entries) → StandsAt X N before.told tree p es
         → TellsAs X N before.told (Stands p es) → Calm before now
         → Answers X N (Stands p es) (tree_reply X N ask path.names p es) done now.told
+    pub text : IfOk done (IsAskText ask)
     pub lost : (p : Profile) (es : Entries) → StandsOver X N before.told tree p es
         → StaysNamed X N before.told now.told p es → Calm before now
         → AnswersOver X N before.told now.told p es (ask_needs X N ask path.names p es)
