@@ -1,5 +1,5 @@
 -- What calls leave that are done, fail or are stopped.
-use Rattle.std.proofs.Common.{◌≡◌, ◌≢◌, ◌∙◌, ℕ, ◌<◌, ◌≤◌, ◌^◌, List, [], ◌∷◌, ◌++◌, Bool, true, false, arith, cond, refl, sym, ap, subst, inl, inr, Option, None, Some, Result, Ok, Err}
+use Rattle.std.proofs.Common.{◌≡◌, ◌∙◌, ℕ, ◌<◌, ◌≤◌, ◌^◌, List, [], ◌∷◌, ◌++◌, Bool, true, false, arith, cond, refl, sym, ap, subst, inl, inr, Option, None, Some, Result, Ok, Err}
 use Rattle.std.specs.Prelude.{◌⊎◌, IfSome}
 use Rattle.std.specs.FinMap.{get}
 use Rattle.std.proofs.lemmas.Bool.{cases_lt}
@@ -280,8 +280,7 @@ module _ (X : List ℕ → List ℕ) (N : List ℕ → ℕ) where
   fault-not-ok (fault.Clash cid held bytes) e = cc
   fault-not-ok fault.Memory e = cc
 
-  module _ (step : Step) (c : IsCall X N step) (p : Profile) (es : Entries) (names : NamesOver X N (told_before step) p es) (agrees : Agrees (told_after step) (tree_blocks X N p (Dir es)))
-      (printed : of_command prints_after false step.asked ≡ true → step.given ≢ status.WriteFault) where
+  module _ (step : Step) (c : IsCall X N step) (p : Profile) (es : Entries) (names : NamesOver X N (told_before step) p es) (agrees : Agrees (told_after step) (tree_blocks X N p (Dir es))) where
     stays : StaysNamed X N (told_before step) (told_after step) p es
     stays = record { names = names; last = agrees }
 
@@ -299,6 +298,13 @@ module _ (X : List ℕ → List ℕ) (N : List ℕ → ℕ) where
         by (inl loss) = absurd (fault-not-ok loss.fault (sym given ∙ loss.status_is))
         by (inr replies) = subst (NamesTree X N (told_after step)) (reply-next X N step.asked step.outside step.held (Stands p es)) (named-now (told_before step) (told_after step) (tree_blocks X N p (Dir es)) (reply_to X N step.asked (in_world p es step.held step.outside)).next replies.stands)
 
+    unprinted-names : of_command prints_after false step.asked ≡ true → step.given ≡ status.WriteFault → NamesTree X N (told_after step) (replied_by X N step.asked step.outside step.held (Stands p es))
+    unprinted-names prints given =
+        subst (NamesTree X N (told_after step)) (reply-next X N step.asked step.outside step.held (Stands p es))
+        (named-now (told_before step) (told_after step) (tree_blocks X N p (Dir es)) (reply_to X N step.asked (in_world p es step.held step.outside)).next
+        ((step-ran X N step c.runs).unprinted_over p es step.held step.outside prints given stays (outside step c status.WriteFault given (λ e. cc) (λ e. cc) (λ e. cc) (λ e. cc))
+        (calm step c status.WriteFault given (λ e. cc) (λ e. cc) (λ e. cc))))
+
     moved-names : (g : Status) → step.given ≡ g → may_move step.asked g ≡ true → NamesTree X N (told_after step) (replied_by X N step.asked step.outside step.held (Stands p es))
     moved-names status.Ok given may = done-names given
     moved-names status.Rule given may = absurd cc
@@ -307,7 +313,7 @@ module _ (X : List ℕ → List ℕ) (N : List ℕ → ℕ) where
     moved-names status.Missing given may = absurd cc
     moved-names status.BadBlock given may = absurd cc
     moved-names status.ReadFault given may = absurd cc
-    moved-names status.WriteFault given may = absurd (printed may given)
+    moved-names status.WriteFault given may = unprinted-names may given
     moved-names status.Clash given may = absurd cc
     moved-names status.Memory given may = absurd cc
     moved-names status.NotReady given may = absurd cc
@@ -325,7 +331,7 @@ module _ (X : List ℕ → List ℕ) (N : List ℕ → ℕ) where
   over-names step BadHead a b o names = absurd names
   over-names step (Stands p es) a b o names =
       subst (λ x. NamesTree X N x (after_call X N step (Stands p es))) o.last
-      (call-names step o.call p es (subst (λ x. NamesOver X N x p es) (sym o.first) (lost-names a o.found p es o.lost names)) (subst (λ x. Agrees x (tree_blocks X N p (Dir es))) (sym o.last) o.agrees) o.printed)
+      (call-names step o.call p es (subst (λ x. NamesOver X N x p es) (sym o.first) (lost-names a o.found p es o.lost names)) (subst (λ x. Agrees x (tree_blocks X N p (Dir es))) (sym o.last) o.agrees))
 
   pub all-named : (steps : List Step) (s : Standing) (a b : Contents) → NamesTree X N (Some a) s → AllCallOver X N steps s a b → NamesTree X N (Some b) (standing_replied X N (done_in steps) s)
   all-named [] s a b names h = subst (λ t. NamesTree X N (Some t) s) (sym h) names

@@ -27,7 +27,7 @@ use Rattle.uf_top.specs.Bounds.{words_touch}
 use Rattle.uf_top.specs.Caused.{StatusShows}
 use Rattle.uf_top.specs.Endings.{EndsAs, IsRefusedBy, PrintsPart, may_move}
 use Rattle.uf_top.specs.Losing.{EndsOver, command_needs}
-use Rattle.uf_top.specs.Naming.{FindsOver, FindsWorld, NamesAfter, StaysNamed, TellsBlocks}
+use Rattle.uf_top.specs.Naming.{FindsOver, FindsWorld, NamesAfter, StandsNamed, StaysNamed, TellsBlocks}
 use Rattle.uf_top.specs.Pins.{PinsAfter, pins_in}
 use Rattle.uf_top.specs.Reply.{Outside, World, in_world, outside_of, reply_to}
 use Rattle.uf_top.specs.Running.{RefusesWords, Runs, RunsCommand, TellsFaults}
@@ -71,6 +71,8 @@ module _ (X : List ℕ → List ℕ) (N : List ℕ → ℕ) where
         → LeavesNext X N (reply_to X N asked w) b.store.told
     pub lost : (p : Profile) (es : Entries) (rows : ℕ → ℕ) (held : Lookup) (outside : Outside) → StaysNamed X N a.store.told b.store.told p es → TellsBlocks a.store.told held → AreHeights p rows → HasOutside asked outside a b
         → StaysQuiet asked given a b → EndsOver X N p es (words_need X N rows asked p es) (reply_to X N asked (in_world p es held outside)) given a b
+    pub unprinted_over : (p : Profile) (es : Entries) (held : Lookup) (outside : Outside) → of_command prints_after false asked ≡ true → given ≡ status.WriteFault → StaysNamed X N a.store.told b.store.told p es → HasOutside asked outside a b
+        → Calm a.store b.store → StandsNamed X N a.store.told b.store.told (blocks X N p (Dir es)) (reply_to X N asked (in_world p es held outside)).next
     pub written : given ≡ status.WriteFault → RoseAt (of_command writes_host false asked) a.writes b.writes a.host.writes b.host.writes
     pub faults : TellsFaults given a b
     pub prefix : (w : World) → FindsOver X N a.store.told b.store.told asked w → HasOutside asked (outside_of w) a b → CountsCanRise a.store → PrintsPart (reply_to X N asked w).ends a.held b.held
@@ -88,6 +90,7 @@ module _ (X : List ℕ → List ℕ) (N : List ℕ → ℕ) where
     replies = r.replies;
     unprinted = r.unprinted;
     lost = r.lost;
+    unprinted_over = r.unprinted_over;
     written = λ is. subst (StatusShows X N a b command) is r.answered.cause;
     faults = r.faults;
     prefix = r.printed.prefix;
@@ -150,6 +153,7 @@ module _ (X : List ℕ → List ℕ) (N : List ℕ → ℕ) where
     words-ran = record {
       replies = λ w finds outside quiet. replies-refused w finds;
       unprinted = λ w after is finds outside calm. absurd cc;
+      unprinted_over = λ p es held outside after. absurd cc;
       lost = λ p es rows held outside named tells heights has quiet. lost-refused p es outside held named;
       written = λ is. absurd (written-refused is);
       faults = no-fault;

@@ -1,5 +1,5 @@
 -- Calls of `run` that are done, fail or are stopped, over a store that keeps what it is given or one that loses blocks.
-use Rattle.std.specs.Prelude.{◌≡◌, ◌≢◌, ◌⊎◌, ℕ, List, [], ◌∷◌, ◌++◌, Bool, true, false, if◌then◌else◌}
+use Rattle.std.specs.Prelude.{◌≡◌, ◌⊎◌, ℕ, List, [], ◌∷◌, ◌++◌, Bool, true, false, if◌then◌else◌}
 use Rattle.std.specs.declared.option.Option.TheVariants.{Some}
 use Rattle.std.specs.declared.result.Result.{Result}
 use Rattle.uf_cid.specs.Blocks.{Held}
@@ -8,8 +8,7 @@ use Rattle.uf_mfs.specs.Reading.{CanRise}
 use Rattle.uf_mfs.specs.Standing.{NamesOver}
 use Rattle.uf_command.specs.Commands.{of_command}
 use Rattle.uf_command.specs.Pins.{HasPins}
-use Rattle.uf_command.specs.Natures.{prints_after, reads_input, uses_host, writes_host}
-use Rattle.uf_command.specs.declared.status.Status.TheVariants as status
+use Rattle.uf_command.specs.Natures.{reads_input, uses_host, writes_host}
 use Rattle.uf_command.specs.declared.types.Command.{Command}
 use Rattle.uf_command.specs.declared.types.Refusal.{Refusal}
 use Rattle.uf_store.specs.Contents.{Contents, Told}
@@ -146,7 +145,7 @@ module _ (X : List ℕ → List ℕ) (N : List ℕ → ℕ) where
   NamesTree told (Stands p es) = NamesOver X N told p es
 
   -- a call over what is left of these contents: it has given no CID of the tree's blocks other bytes, which would have
-  -- their digest, and it isn't an `add --to-files` of which only the output failed
+  -- their digest
   pub record CallsOver (step : Step) (standing : Standing) (before now : Contents) : Type 0 where
     pub found : Contents
     pub lost : LosesSome before found
@@ -154,7 +153,6 @@ module _ (X : List ℕ → List ℕ) (N : List ℕ → ℕ) where
     pub last : told_after step ≡ Some now
     pub call : IsCall step
     pub agrees : Agrees (Some now) (blocks_of standing)
-    pub printed : of_command prints_after false step.asked ≡ true → step.given ≢ status.WriteFault
 
   -- calls one after the other, before each of which blocks may have been lost
   abbrev pub AllCallOver : List Step → Standing → Contents → Contents → Type 0

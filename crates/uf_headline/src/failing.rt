@@ -25,8 +25,7 @@ pub fn what_fails_leaves_the_tree()
 
 /// The same where blocks are lost before calls: the Head then names what the calls that were done make of the tree,
 /// and what is held of its blocks is right. No call gives a CID of the tree's blocks other bytes: these would have
-/// the digest of the block that was lost, and no store could see that. Nor is one of them an `add --to-files` of
-/// which only the output failed: it was done, but by what tree isn't said over lost blocks.
+/// the digest of the block that was lost, and no store could see that.
 pub fn what_is_lost_leaves_the_tree_named()
     ensures { (X : List ℕ → List ℕ) (N : List ℕ → ℕ) (steps : List Step) (before now : Contents) (p : Profile)
         (es : Entries) → NamesTree X N (Some before) (Stands p es)

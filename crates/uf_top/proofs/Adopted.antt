@@ -305,6 +305,7 @@ module _ (X : List ℕ → List ℕ) (N : List ℕ → ℕ) where
           lost = λ p es rows held bytes named tells heights input quiet2. over p es held bytes
               (opening-over X N a.told m.told p es (blocks X N p (Dir es)) (adopt_reply X N held source dest p es) f why is (lost p es named.names quiet2.store.faults) (names-same X N a.told m.told p es told named));
           unprinted = λ world after. absurd cc;
+          unprinted_over = λ p es held outside after. absurd cc;
           prefix = λ world finds input room. nothing-printed (reply X N (Adopt source dest) world).ends h h refl;
           prints = quiet.prints h h refl;
           kinds = plain.ends;
@@ -382,6 +383,7 @@ module _ (X : List ℕ → List ℕ) (N : List ℕ → ℕ) where
             answers = λ world finds input quiet2. answers-opened (Err why) g world.standing world.held (outside_of world) finds.stands finds.held quiet2.store;
             lost = λ p es rows held bytes named tells heights input quiet2. more-over (Err why) g p es held bytes (over-opened (Err why) g p es held named tells quiet2.store);
             unprinted = λ world after. absurd cc;
+            unprinted_over = λ p es held outside after. absurd cc;
             prefix = λ world finds input room. nothing-printed (reply X N (Adopt source dest) world).ends h h refl;
             prints = quiet.prints h h refl;
             kinds = plain.ends;
@@ -410,6 +412,7 @@ module _ (X : List ℕ → List ℕ) (N : List ℕ → ℕ) where
         answers = λ world finds input quiet2. answers-opened (Ok tt) g world.standing world.held (outside_of world) finds.stands finds.held quiet2.store;
         lost = λ p es rows held bytes named tells heights input quiet2. more-over (Ok tt) g p es held bytes (over-opened (Ok tt) g p es held named tells quiet2.store);
         unprinted = λ world after. absurd cc;
+        unprinted_over = λ p es held outside after. absurd cc;
         prefix = λ world finds input room. nothing-printed (reply X N (Adopt source dest) world).ends h h refl;
         prints = ([], refl, after-nothing h);
         kinds = tt;

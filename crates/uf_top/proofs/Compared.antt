@@ -96,6 +96,7 @@ module _ (X : List ℕ → List ℕ) (N : List ℕ → ℕ) (cid : Cid) (a b : S
         answers = λ world finds input calm. answered world finds.held (k.says world.held world.input finds.held (input.0 refl).0 (input.0 refl).1 calm.store);
         lost = λ p es rows held outside named tells heights input calm. over p es held outside named (k.says held outside.input tells (input.0 refl).0 (input.0 refl).1 calm.store);
         unprinted = λ world after. absurd cc;
+        unprinted_over = λ p es held outside after. absurd cc;
         prefix = λ world finds input room. nothing-printed (reply X N (Same cid) world).ends h h refl;
         prints = quiet.prints h h (else-same false h);
         kinds = may-end (Same cid) why k.kinds;
@@ -133,6 +134,7 @@ module _ (X : List ℕ → List ℕ) (N : List ℕ → ℕ) (cid : Cid) (a b : S
       answers = λ world finds input calm. answered world finds.held (text-is world.held world.input (k.says world.held world.input finds.held (input.0 refl).0 (input.0 refl).1 calm.store));
       lost = λ p es rows held outside named tells heights input calm. over p es held outside named (text-is held outside.input (k.says held outside.input tells (input.0 refl).0 (input.0 refl).1 calm.store));
       unprinted = λ world after. absurd cc;
+      unprinted_over = λ p es held outside after. absurd cc;
       prefix = λ world finds input room. subst (λ e. PrintsPart e h h2) (text-is world.held world.input (k.says world.held world.input finds.held (input.0 refl).0 (input.0 refl).1 (calm-of a b room k.cause))) (whole-printed text h h2 is);
       prints = (text, tt, is);
       kinds = tt;
@@ -162,6 +164,7 @@ module _ (X : List ℕ → List ℕ) (N : List ℕ → ℕ) (cid : Cid) (a b : S
       answers = λ world finds input calm. absurd (not-rose w v (c.counts.rose refl) calm.written.output);
       lost = λ p es rows held outside named tells heights input calm. absurd (not-rose w v (c.counts.rose refl) calm.written.output);
       unprinted = λ world after. absurd cc;
+      unprinted_over = λ p es held outside after. absurd cc;
       prefix = λ world finds input room. subst (λ e. PrintsPart e h h2) (text-is world.held world.input (k.says world.held world.input finds.held (input.0 refl).0 (input.0 refl).1 (calm-of a b room k.cause))) c.printed;
       prints = (text, tt, c.printed);
       kinds = refl;

@@ -138,6 +138,7 @@ module _ (X : List ℕ → List ℕ) (N : List ℕ → ℕ) (cid : Cid) (a b : S
         answers = λ world finds input calm. answered world finds.held calm.store (by-told (Refuses why) world.held finds.held says);
         lost = λ p es rows held bs named tells heights input calm. over p es held bs named calm.store (by-told (Refuses why) held tells says);
         unprinted = λ world after. absurd cc;
+        unprinted_over = λ p es held outside after. absurd cc;
         prefix = λ world finds input room. by-told (λ held. PrintsPart (said held cid h h2) h h2) world.held finds.held part;
         prints = quiet.prints h h2 (bytes, sent);
         kinds = reading-kinds X a b why of cause;
@@ -170,6 +171,7 @@ module _ (X : List ℕ → List ℕ) (N : List ℕ → ℕ) (cid : Cid) (a b : S
     answers = λ world finds input quiet. answered world finds.held (by-told Whole world.held finds.held says);
     lost = λ p es rows held bs named tells heights input quiet. over p es held bs named (by-told Whole held tells says);
     unprinted = λ world after. absurd cc;
+    unprinted_over = λ p es held outside after. absurd cc;
     prefix = λ world finds input room. whole world.held (by-told Whole world.held finds.held says);
     prints = (bytes, tt, sent);
     kinds = tt;
@@ -203,6 +205,7 @@ module _ (X : List ℕ → List ℕ) (N : List ℕ → ℕ) (cid : Cid) (a b : S
     answers = λ world finds input quiet. absurd (not-rose w w2 (counts.rose refl) quiet.written.output);
     lost = λ p es rows held bs named tells heights input quiet. absurd (not-rose w w2 (counts.rose refl) quiet.written.output);
     unprinted = λ world after. absurd cc;
+    unprinted_over = λ p es held outside after. absurd cc;
     prefix = λ world finds input room. by-told (λ held. PrintsPart (said held cid h h2) h h2) world.held finds.held part;
     prints = (bytes, tt, whole-printed bytes h h2 sent);
     kinds = refl;

@@ -405,6 +405,7 @@ module _ (X : List ℕ → List ℕ) (N : List ℕ → ℕ) (offset count : ℕ)
           (lost p es (rows_found rows (at 0 path.names (Dir es))) opened (height-of p rows (at 0 path.names (Dir es)) opened.root.plan.profile heights) (back stood) (not-sink w w2 X (IsBadRead X N m.told found.root.cid) m b r cause quiet.written.output)))
           (prefix p es opened (room stood)) (names-same X N a.told b.told p es same named);
       unprinted = λ world after. absurd cc;
+      unprinted_over = λ p es held outside after. absurd cc;
       prefix = λ world finds input had. printed world.standing finds.names had.faults;
       prints = sent-prints (λ text. ⊤) h h2 sends.appends.bytes tt sends.appends.appended done kind;
       kinds = sent-kinds done kind;

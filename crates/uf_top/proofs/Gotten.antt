@@ -505,6 +505,7 @@ module _ (X : List ℕ → List ℕ) (N : List ℕ → ℕ) (source : DagPath) (
       lost = λ p es rows held outside named tells heights input quiet. over p es held outside named (by-told (λ held. IsTold held outside.host done) held tells
           (each-told (λ held. IsTold held outside.host done) (λ held. told-so held outside.host (input.1 refl).0 (input.1 refl).1 (quiet.written.host refl) quiet.store)));
       unprinted = λ world after. absurd cc;
+      unprinted_over = λ p es held outside after. absurd cc;
       prefix = λ world finds input room. nothing-printed (reply X N (Get source path) world).ends h h refl;
       prints = so.prints;
       kinds = so.kinds;

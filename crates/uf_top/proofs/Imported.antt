@@ -265,6 +265,7 @@ module _ (X : List ℕ → List ℕ) (N : List ℕ → ℕ) (a b : Seen) (l m : 
         answers = λ world finds input calm. answered world finds.stands (k.roots world.held world.input finds.held (input.0 refl).0 (input.0 refl).1 calm.store);
         lost = λ p es rows held outside named tells heights input calm. over p es held outside (names-kept X N a.told b.told p es k.good head named) (k.roots held outside.input tells (input.0 refl).0 (input.0 refl).1 calm.store);
         unprinted = λ world after. absurd cc;
+        unprinted_over = λ p es held outside after. absurd cc;
         prefix = λ world finds input room. nothing-printed (reply X N Import world).ends h h refl;
         prints = quiet.prints h h (else-same false h);
         kinds = may-end Import why k.kinds;
@@ -307,6 +308,7 @@ module _ (X : List ℕ → List ℕ) (N : List ℕ → ℕ) (a b : Seen) (l m : 
       answers = λ world finds input calm. answered world finds.stands (k.roots world.held world.input finds.held (input.0 refl).0 (input.0 refl).1 calm.store);
       lost = λ p es rows held outside named tells heights input calm. over p es held outside (names-kept X N a.told b.told p es k.good head-same named) (k.roots held outside.input tells (input.0 refl).0 (input.0 refl).1 calm.store);
       unprinted = λ world after. absurd cc;
+      unprinted_over = λ p es held outside after. absurd cc;
       prefix = λ world finds input room. subst (λ e. PrintsPart e h h2) (ends-so world finds.held input.0 room) (whole-printed text h h2 is);
       prints = (text, k.added, is);
       kinds = tt;
@@ -338,6 +340,7 @@ module _ (X : List ℕ → List ℕ) (N : List ℕ → ℕ) (a b : Seen) (l m : 
       answers = λ world finds input calm. absurd (not-rose w v (c.counts.rose refl) calm.written.output);
       lost = λ p es rows held outside named tells heights input calm. absurd (not-rose w v (c.counts.rose refl) calm.written.output);
       unprinted = λ world after. absurd cc;
+      unprinted_over = λ p es held outside after. absurd cc;
       prefix = λ world finds input room. subst (λ e. PrintsPart e h h2) (ends-so world finds.held input.0 room) c.printed;
       prints = (text, k.added, c.printed);
       kinds = refl;

@@ -393,6 +393,7 @@ module _ (X : List ℕ → List ℕ) (N : List ℕ → ℕ) (absent : Bool) (pat
           (subst (λ t. Proves t (blocks X N p (Dir es)) (Text p es) (Says p es) r h h2) told (proves-at p es (opened-over p es named.names (front stood)) (back stood)))
           (not-sink w w2 r counts quiet.written.output);
       unprinted = λ world after. absurd cc;
+      unprinted_over = λ p es held outside after. absurd cc;
       prefix = λ world finds input had. printed world.standing finds.names had.faults;
       prints = sent-prints (λ text. ⊤) h h2 bytes tt sends done kind;
       kinds = sent-kinds done kind;

@@ -456,6 +456,7 @@ module _ (X : List ℕ → List ℕ) (N : List ℕ → ℕ) (ask : PinAsk) (a b 
         answers = λ world finds input calm. answered is world finds.stands calm.store (said-at ask (Err (pin_refusal f)) a.told says world.held finds.held world.pins (input.2 (pins-used ask)));
         lost = λ p es rows held outside named tells heights input calm. over is p es held outside named calm.store (said-at ask (Err (pin_refusal f)) a.told says held tells outside.pins (input.2 (pins-used ask)));
         unprinted = λ world after. absurd cc;
+        unprinted_over = λ p es held outside after. absurd cc;
         prefix = λ world finds input room. nothing-printed (reply X N (Pin ask) world).ends h h refl;
         prints = quiet.prints h h refl;
         kinds = is.kinds;
@@ -513,6 +514,7 @@ module _ (X : List ℕ → List ℕ) (N : List ℕ → ℕ) (ask : PinAsk) (a b 
       stands = names-kept X N a.told b.told p es good head named;
     });
     unprinted = λ world after. absurd cc;
+    unprinted_over = λ p es held outside after. absurd cc;
     prefix = λ world finds input room. subst (λ x. PrintsPart x h h2) (sym (said world.held finds.held world.pins (input.2 (pins-used ask)))) (whole-printed text h h2 sent);
     prints = (text, text_is, sent);
     kinds = tt;
@@ -595,6 +597,7 @@ module _ (X : List ℕ → List ℕ) (N : List ℕ → ℕ) (a b : Seen) (l : st
         answers = λ world finds input quiet. absurd (not-rose w v (c.counts.rose refl) quiet.written.output);
         lost = λ p es rows held outside named tells heights input quiet. absurd (not-rose w v (c.counts.rose refl) quiet.written.output);
         unprinted = λ world after. absurd cc;
+        unprinted_over = λ p es held outside after. absurd cc;
         prefix = λ world finds input room. subst (λ x. PrintsPart x h h2) (sym (said-at pins.List (Ok text) a.told says world.held finds.held world.pins (input.2 refl))) c.printed;
         prints = (text, text-is, c.printed);
         kinds = refl;

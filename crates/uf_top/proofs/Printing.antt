@@ -13,7 +13,8 @@ use Rattle.uf_store.specs.Contents.{Told}
 use Rattle.uf_store.specs.Faults.{StaysCalm}
 use Rattle.uf_store.specs.Seen.{Seen}
 use Rattle.uf_tree.specs.Standing.{Standing, NoHead, BadHead, Stands}
-use Rattle.uf_tree.specs.Tree.{Entries}
+use Rattle.uf_tree.specs.Tree.{Dir, Entries}
+use Rattle.uf_tree.specs.TreePlan.{blocks}
 use Rattle.uf_tree.specs.declared.profile.Profile.{Profile}
 use Rattle.uf_command.specs.Natures.{command_writes, needs_standing, uses_host, writes_host}
 use Rattle.uf_command.specs.Natures as natures
@@ -40,7 +41,7 @@ use Rattle.uf_top.specs.Getting.{GetsFor}
 use Rattle.uf_top.specs.Hosted.{IsHostedText}
 use Rattle.uf_top.specs.Pins.{PinsFor}
 use Rattle.uf_top.specs.Losing.{AnswersOver, DoesOver}
-use Rattle.uf_top.specs.Naming.{FindsOver, NamesIf, NamesAs, StandsIf, TellsHost}
+use Rattle.uf_top.specs.Naming.{FindsOver, NamesIf, NamesAs, StandsIf, StandsNamed, TellsHost}
 use Rattle.uf_top.specs.Shapes.{WritesAs, is_done}
 use Rattle.uf_top.specs.Working.{Does, Makes, SaysText}
 
@@ -458,6 +459,7 @@ module _ (X : List ℕ → List ℕ) (N : List ℕ → ℕ) where
           answers = λ world finds input calm. answered world (λ uses. (input.1 uses).0) (mk.answers world (stands-in a.told world.standing finds.stands) input calm.store);
           lost = λ p es rows held bytes named tells heights input calm. over p es (mk.lost p es rows held bytes named input calm.store);
           unprinted = λ world after is. absurd (let e : is_done (status_of why) ≡ true = ap is_done is in let f = quiet.undone in cc);
+          unprinted_over = λ p es held outside after is. absurd (let e : is_done (status_of why) ≡ true = ap is_done is in let f = quiet.undone in cc);
           prefix = λ world finds input room. nothing-printed (reply X N command world).ends h h refl;
           prints = quiet.prints h h (else-same (natures.streams command) h);
           kinds = may-end command why mk.kinds;
@@ -532,6 +534,7 @@ module _ (X : List ℕ → List ℕ) (N : List ℕ → ℕ) where
           answers = λ world finds input calm. answered world (λ uses. (input.1 uses).0) (mk.answers world (stands-in a.told world.standing finds.stands) input calm.store);
           lost = λ p es rows held bytes named tells heights input calm. over p es (mk.lost p es rows held bytes named input calm.store);
           unprinted = λ world after is. absurd cc;
+          unprinted_over = λ p es held outside after is. absurd cc;
           prefix = λ world finds input room. subst (λ e. PrintsPart e h h2) (text-is world finds input room) (whole-printed text h h2 is);
           prints = (text, text-of command alone a.told b.told side.told l m text mk.adds mk.rows, is);
           kinds = tt;
@@ -569,6 +572,11 @@ module _ (X : List ℕ → List ℕ) (N : List ℕ → ℕ) where
         left-next world (inl x) = absurd (let e = x.ends_are in cc)
         left-next world (inr x) = record { stands = x.stands; blocks = x.held }
 
+        -- over lost blocks too: no block was lost, since the text was made
+        left-over : (p : Profile) (es : Entries) {needs : List Held} {given : Reply} → AnswersOver X N a.told b.told p es needs given (Ok text) → StandsNamed X N a.told b.told (blocks X N p (Dir es)) given.next
+        left-over p es (inl x) = absurd (let e = x.ends_are in cc)
+        left-over p es (inr x) = x.stands
+
         cut-does : IsCut text refusal.Write h h2 w v → Does X N command (Err refusal.Write) (around a l i h w t0 side er) (around b m j h2 v t1 side2 er2)
         cut-does c =
             let rose = c.counts.rose refl in
@@ -576,6 +584,7 @@ module _ (X : List ℕ → List ℕ) (N : List ℕ → ℕ) where
               answers = λ world finds input calm. absurd (let stood = calm.written.output in omega (arith, rose, stood));
               lost = λ p es rows held bytes named tells heights input calm. absurd (let stood = calm.written.output in omega (arith, rose, stood));
               unprinted = λ world after is finds input calm. left-next world (mk.answers world (stands-in a.told world.standing finds.stands) input calm);
+              unprinted_over = λ p es held outside after is named input calm. left-over p es (mk.lost p es (λ n. 0) held outside named input calm);
               prefix = λ world finds input room. subst (λ e. PrintsPart e h h2) (text-is world finds input room) c.printed;
               prints = (text, text-of command alone a.told b.told side.told l m text mk.adds mk.rows, c.printed);
               kinds = refl;

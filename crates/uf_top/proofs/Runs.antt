@@ -14,7 +14,7 @@ use Rattle.uf_top.specs.Running.{Runs, RunsCommand}
 use Rattle.uf_top.specs.Working.{Does, Serves}
 use Rattle.uf_top.proofs.Counted.{counted-of}
 use Rattle.uf_top.proofs.Losses.{lost-told, touches-told}
-use Rattle.uf_top.proofs.Telling.{blamed-told, clashes-told, faults-told, gets-told, good-told, head-told, host-told, idle-told, is-refused, kinds-told, pins-told, prefix-told, prints-told, read-told, replies-told, says-plain, shows, synced-told, told-same, unprinted-told, whole-told, write-told, writes-told}
+use Rattle.uf_top.proofs.Telling.{blamed-told, clashes-told, faults-told, gets-told, good-told, head-told, host-told, idle-told, is-refused, kinds-told, pins-told, prefix-told, prints-told, read-told, replies-told, says-plain, shows, synced-told, told-same, unprinted-over-told, unprinted-told, whole-told, write-told, writes-told}
 
 module _ (given : Status) (X : List ℕ → List ℕ) (N : List ℕ → ℕ) (a b : Around) where
   command-told : (command : Command) (done : Result (Unit {0}) Refusal) → Does X N command done a b → IfErr done (ByOwnStore X (own_store command) a.left a.store b.store) → IsOf (may_end command) done → TellsEnd (Said a.errors b.errors) done given
@@ -23,6 +23,7 @@ module _ (given : Status) (X : List ℕ → List ℕ) (N : List ℕ → ℕ) (a 
     replies = λ w finds outside quiet. replies-told a b given X N command done s t w finds outside quiet.store quiet.written quiet.own;
     whole = λ standing needs stands calm. whole-told a b given X N command done s t standing needs stands calm;
     unprinted = λ w after is finds outside calm. unprinted-told a b given X N command done s t w after is finds outside calm;
+    unprinted_over = λ p es held outside after is named has calm. unprinted-over-told a b given X N command done s t p es held outside after is named has calm;
     lost = λ p es rows held outside named tells heights has quiet.
         lost-told a b given X N p es command done s t rows held outside named tells heights has quiet.store quiet.written quiet.own;
     answered = record {

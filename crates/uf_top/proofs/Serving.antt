@@ -158,6 +158,7 @@ module _ (X : List ℕ → List ℕ) (N : List ℕ → ℕ) (a : Around) (er2 : 
     lost = λ p es rows held bytes named tells heights input calm.
         inl (record { fault = Memory; ends_are = refl; loss = tt; stands = names-same X N a.store.told a.store.told p es refl named });
     unprinted = λ world after is. absurd cc;
+    unprinted_over = λ p es held outside after is. absurd cc;
     prefix = λ world finds input room. nothing-printed (reply X N command world).ends a.held a.held refl;
     prints = else-same (flows command) a.held;
     kinds = memory-kind command;

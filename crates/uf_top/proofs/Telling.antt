@@ -1,6 +1,7 @@
 -- From how a command was done to what is told of it.
 use Rattle.std.proofs.Common.{◌≡◌, ◌⊎◌, ℕ, ◌<◌, List, [], true, false, arith, refl, sym, ap, subst, ◌∙◌, inl, inr, Some, None, Bool, Result, Ok, Err}
 use Rattle.std.specs.Prelude.{◌&&◌, ◌||◌, not, IfErr, IfSome}
+use Rattle.uf_cid.specs.Blocks.{Lookup}
 use Rattle.uf_cid.specs.declared.cid.Cid.{Cid}
 use Rattle.uf_edge.specs.Counts.{Counts, Stood}
 use Rattle.uf_edge.specs.Host.{HostTold}
@@ -15,7 +16,8 @@ use Rattle.uf_store.specs.Seen.{Seen}
 use Rattle.uf_store.specs.declared.store.Role.{Role}
 use Rattle.uf_store.specs.declared.store.StoreFault.TheVariants as fault
 use Rattle.uf_tree.specs.Standing.{Standing}
-use Rattle.uf_tree.specs.Tree.{Entries}
+use Rattle.uf_tree.specs.Tree.{Dir, Entries}
+use Rattle.uf_tree.specs.TreePlan.{blocks}
 use Rattle.uf_tree.specs.declared.profile.Profile.{Profile}
 use Rattle.uf_command.specs.Commands.{HasInput, is_idle}
 use Rattle.uf_command.specs.Natures.{command_writes, needs_standing, only_reads, own_store, reads_tree_alone, uses_host, writes_host, OwnStore, NoStore, OfCarSections, OfTree, prints_after}
@@ -23,7 +25,7 @@ use Rattle.uf_command.specs.Natures.{streams as flows}
 use Rattle.uf_command.specs.Kinds.{IsOf, OfCar, OfClash, OfHost, OfLongInput, OfMissing, OfPath, OfPins, OfReady, OfRule, OfUsage, fault_behind, may_close, refusal_kind}
 use Rattle.uf_command.specs.Natures.{kinds_of, may_end, may_give}
 use Rattle.uf_command.specs.Lines.{line_of, said}
-use Rattle.uf_top.specs.Reply.{World, outside_of, reply}
+use Rattle.uf_top.specs.Reply.{Outside, World, in_world, outside_of, reply}
 use Rattle.uf_command.specs.Statuses.{ended, no_memory, plain_line, status_of}
 use Rattle.uf_command.specs.declared.status.Status.{Status}
 use Rattle.uf_command.specs.declared.status.Status.TheVariants as status
@@ -43,7 +45,7 @@ use Rattle.uf_top.specs.Causes.{IsBadIn, IsSynced, is_read, is_write, KeepsHead}
 use Rattle.uf_top.specs.Endings.{EndsAs, EndsBy, FindsAll, IsRefusedBy, IsSyncedFor, IsTextOf, PinsUnread, PrintsAll, PrintsAt, PrintsPart, SaysPlain, may_move}
 use Rattle.uf_command.specs.Telling.{TellsEnd, TellsWhy, has_details}
 use Rattle.uf_top.specs.Getting.{GetsFor, LeavesAt}
-use Rattle.uf_top.specs.Naming.{FindsOver, FindsWorld, StandsIf}
+use Rattle.uf_top.specs.Naming.{FindsOver, FindsWorld, StandsIf, StandsNamed, StaysNamed}
 use Rattle.uf_top.specs.Pins.{PinsAfter, PinsFor, PinsLeft}
 use Rattle.uf_top.specs.Shapes.{SyncsAfter, WritesAs, is_done}
 use Rattle.uf_top.specs.Working.{Does}
@@ -798,6 +800,14 @@ module _ (a b : Around) where
       unprinted-told command (Ok done) s t world after is finds input calm = absurd (let e : status.Ok ≡ status.WriteFault = sym t.0 ∙ is in cc)
       unprinted-told command (Err why) s (inl t) world after is finds input calm = s.unprinted world after (sym t.0 ∙ is) finds input calm
       unprinted-told command (Err why) s (inr t) world after is finds input calm = absurd (let e : status.Memory ≡ status.WriteFault = sym t.1 ∙ is in cc)
+
+      -- over lost blocks too
+      pub unprinted-over-told : (command : Command) (done : Result (Unit {0}) Refusal) → Does X N command done a b → TellsEnd Says done given
+          → (p : Profile) (es : Entries) (held : Lookup) (outside : Outside) → prints_after command ≡ true → given ≡ status.WriteFault → StaysNamed X N a.store.told b.store.told p es → HasOutside (Ok command) outside a b → Calm a.store b.store
+          → StandsNamed X N a.store.told b.store.told (blocks X N p (Dir es)) (reply X N command (in_world p es held outside)).next
+      unprinted-over-told command (Ok done) s t p es held outside after is named has calm = absurd (let e : status.Ok ≡ status.WriteFault = sym t.0 ∙ is in cc)
+      unprinted-over-told command (Err why) s (inl t) p es held outside after is named has calm = s.unprinted_over p es held outside after (sym t.0 ∙ is) named has calm
+      unprinted-over-told command (Err why) s (inr t) p es held outside after is named has calm = absurd (let e : status.Memory ≡ status.WriteFault = sym t.1 ∙ is in cc)
 
       -- nothing but the beginning of the reply's text is printed
       pub prefix-told : (command : Command) (done : Result (Unit {0}) Refusal) → Does X N command done a b

@@ -128,6 +128,7 @@ module _ (X : List ℕ → List ℕ) (N : List ℕ → ℕ) (n seed : ℕ) (s : 
         answers = λ world finds input calm. answered world finds (of.says calm.own);
         lost = λ p es rows held outside named tells heights input calm. over p es held outside named (of.says calm.own);
         unprinted = λ world after. absurd cc;
+        unprinted_over = λ p es held outside after. absurd cc;
         prefix = λ world finds input room. nothing-printed (reply X N (Gen n seed) world).ends h h refl;
         prints = quiet.prints h h (else-same false h);
         kinds = may-end (Gen n seed) why of.kinds;
@@ -178,6 +179,7 @@ module _ (X : List ℕ → List ℕ) (N : List ℕ → ℕ) (n seed : ℕ) (s : 
       answers = λ world finds input calm. answered world finds;
       lost = λ p es rows held outside named tells heights input calm. over p es held outside named;
       unprinted = λ world after. absurd cc;
+      unprinted_over = λ p es held outside after. absurd cc;
       prefix = λ world finds input room. subst (λ e. PrintsPart e h h2) g (whole-printed text h h2 is);
       prints = (text, g, is);
       kinds = tt;
@@ -207,6 +209,7 @@ module _ (X : List ℕ → List ℕ) (N : List ℕ → ℕ) (n seed : ℕ) (s : 
       answers = λ world finds input calm. absurd (not-rose w v (c.counts.rose refl) calm.written.output);
       lost = λ p es rows held outside named tells heights input calm. absurd (not-rose w v (c.counts.rose refl) calm.written.output);
       unprinted = λ world after. absurd cc;
+      unprinted_over = λ p es held outside after. absurd cc;
       prefix = λ world finds input room. subst (λ e. PrintsPart e h h2) g c.printed;
       prints = (text, g, c.printed);
       kinds = refl;

@@ -30,6 +30,7 @@ module _ (X : List ℕ → List ℕ) (N : List ℕ → ℕ) (command : Command) 
   as-memory cid first second h = record {
     answers = λ world finds has quiet. absurd (not-rose a.store.clashes b.store.clashes h.cause.rose quiet.store.clashes);
     unprinted = λ world after is. absurd cc;
+    unprinted_over = λ p es held outside after is. absurd cc;
     lost = λ p es rows held outside named tells heights has quiet. absurd (not-rose a.store.clashes b.store.clashes h.cause.rose quiet.store.clashes);
     prefix = h.prefix;
     prints = h.prints;

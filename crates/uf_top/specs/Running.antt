@@ -23,11 +23,12 @@ use Rattle.uf_top.specs.Endings.{EndsAs, FindsAll, IsRefusedBy, IsSyncedFor, IsT
 use Rattle.uf_top.specs.Getting.{GetsFor}
 use Rattle.uf_top.specs.Losing.{EndsOver, command_needs}
 use Rattle.uf_top.specs.Pins.{PinsAfter}
-use Rattle.uf_top.specs.Naming.{FindsOver, FindsWorld, StaysNamed, TellsBlocks}
+use Rattle.uf_top.specs.Naming.{FindsOver, FindsWorld, StandsNamed, StaysNamed, TellsBlocks}
 use Rattle.uf_top.specs.Reply.{Outside, World, in_world, outside_of, reply}
 use Rattle.uf_top.specs.Shapes.{WritesAs, is_done}
 use Rattle.uf_tree.specs.Standing.{Standing}
-use Rattle.uf_tree.specs.Tree.{Entries}
+use Rattle.uf_tree.specs.Tree.{Dir, Entries}
+use Rattle.uf_tree.specs.TreePlan.{blocks}
 use Rattle.uf_tree.specs.declared.profile.Profile.{Profile}
 
 module _ (X : List ℕ → List ℕ) (N : List ℕ → ℕ) where
@@ -118,6 +119,14 @@ module _ (X : List ℕ → List ℕ) (N : List ℕ → ℕ) where
         → StaysQuiet (Ok command) given before now
         → EndsOver X N p es (command_needs X N rows command p es) (reply X N command (in_world p es held outside)) given
         before now
+    -- and where only the output of its rows failed, `add --to-files` leaves the new tree there too: the Head names what
+    -- the reply says that stands next, and it lacks no block that was held or is new
+    pub unprinted_over : (p : Profile) (es : Entries) (held : Lookup) (outside : Outside)
+        → prints_after command ≡ true → given ≡ status.WriteFault
+        → StaysNamed X N before.store.told now.store.told p es → HasOutside (Ok command) outside before now
+        → Calm before.store now.store
+        → StandsNamed X N before.store.told now.store.told (blocks X N p (Dir es))
+        (reply X N command (in_world p es held outside)).next
     -- whatever the store shows and whatever fails: the kind, the line and the cause of the answer, the faults that it
     -- tells, what is printed, what is left, and the touches
     pub answered : IsAnswered X N command given before now

@@ -16,7 +16,8 @@ use Rattle.uf_store.specs.Faults.{Shown}
 use Rattle.uf_store.specs.Keeping.{KeepsGood}
 use Rattle.uf_store.specs.Seen.{Seen}
 use Rattle.uf_tree.specs.Standing.{Standing, Stands}
-use Rattle.uf_tree.specs.Tree.{Entries}
+use Rattle.uf_tree.specs.Tree.{Dir, Entries}
+use Rattle.uf_tree.specs.TreePlan.{blocks}
 use Rattle.uf_tree.specs.declared.profile.Profile.{Profile}
 use Rattle.uf_command.specs.declared.types.Ask.{Ask}
 use Rattle.uf_command.specs.declared.types.Command.{Command}
@@ -41,7 +42,7 @@ use Rattle.uf_top.specs.Getting.{GetsFor}
 use Rattle.uf_top.specs.Hosted.{IsHostedText}
 use Rattle.uf_top.specs.Losing.{AnswersOver, DoesOver, ask_needs, command_needs}
 use Rattle.uf_top.specs.Pins.{PinsFor}
-use Rattle.uf_top.specs.Naming.{FindsOver, FindsWorld, StaysNamed, TellsBlocks}
+use Rattle.uf_top.specs.Naming.{FindsOver, FindsWorld, StandsNamed, StaysNamed, TellsBlocks}
 use Rattle.uf_top.specs.Shapes.{WritesAs, is_done, is_ok}
 
 module _ (X : List ℕ → List ℕ) (N : List ℕ → ℕ) where
@@ -97,8 +98,9 @@ module _ (X : List ℕ → List ℕ) (N : List ℕ → ℕ) where
         → is_idle bytes es command ≡ true → now ≡ before
 
   -- how a command was done and its text printed: its answer is the reply, over lost blocks too, what is printed is a
-  -- prefix of the reply's text, and the reply's tree stands where its rows follow the Head and only they failed. Each
-  -- refusal is one of its kinds and has its cause, it keeps within its touches, and it leaves what it leaves
+  -- prefix of the reply's text, and the reply's tree stands where its rows follow the Head and only they failed, over
+  -- lost blocks too. Each refusal is one of its kinds and has its cause, it keeps within its touches, and it leaves
+  -- what it leaves
   pub record Does (command : Command) (done : Result (Unit {0}) Refusal) (before now : Around) : Type 0 where
     pub answers : (w : World) → FindsWorld X N (Ok command) before.store.told w
         → HasOutside (Ok command) (outside_of w) before now → StaysQuiet (Ok command) (ended done) before now
@@ -112,6 +114,12 @@ module _ (X : List ℕ → List ℕ) (N : List ℕ → ℕ) where
         → HasOutside (Ok command) outside before now → StaysQuiet (Ok command) (ended done) before now
         → DoesOver X N before.store.told now.store.told p es (command_needs X N rows command p es)
         (reply X N command (in_world p es held outside)) done before.held now.held
+    pub unprinted_over : (p : Profile) (es : Entries) (held : Lookup) (outside : Outside)
+        → prints_after command ≡ true → ended done ≡ status.WriteFault
+        → StaysNamed X N before.store.told now.store.told p es → HasOutside (Ok command) outside before now
+        → Calm before.store now.store
+        → StandsNamed X N before.store.told now.store.told (blocks X N p (Dir es))
+        (reply X N command (in_world p es held outside)).next
     pub prefix : (w : World) → FindsOver X N before.store.told now.store.told (Ok command) w
         → HasOutside (Ok command) (outside_of w) before now → CountsCanRise before.store
         → PrintsPart (reply X N command w).ends before.held now.held
