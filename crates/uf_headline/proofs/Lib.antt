@@ -21,6 +21,7 @@ pub mod BatchReplies
 pub mod BatchStops
 pub mod BatchTexts
 pub mod Firm
+pub mod Spared
 pub mod Heights
 pub mod LineHosts
 pub mod Ran

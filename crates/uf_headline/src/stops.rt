@@ -19,6 +19,7 @@ ghost use Rattle.uf_command.specs.declared.types.Command.TheVariants as commands
 ghost use Rattle.uf_command.specs.declared.types.Adding.TheVariants as adding;
 ghost use Rattle.uf_command.specs.declared.types.Refusal.{Refusal};
 ghost use Rattle.uf_headline.specs.Added.{EachHolds, KeepsHosted, KeepsInput};
+ghost use Rattle.uf_headline.specs.Spared.{KeepsAgain, LeavesBelow, LeavesKept};
 ghost use Rattle.uf_top.specs.Around.{Around, CountsCanRise};
 ghost use Rattle.uf_top.specs.Collecting.{EachSweepOutcome, kept_in};
 ghost use Rattle.uf_top.specs.Outcomes.{EachOutcome, EachStop, IsSafeFor, LeavesEither, LeavesNoneOr, LeavesTree};
@@ -85,4 +86,16 @@ pub fn a_stop_of_a_collection_leaves_the_tree()
     ensures { (X : List ℕ → List ℕ) (N : List ℕ → ℕ) (t : Contents) (listed : Option (List Cid)) (list : List Cid)
         (p : Profile) (es : Entries) → IsHash X → ((name : List ℕ) → N name < 2 ^ 64)
         → IsSafeFor X N t p es → kept_in t listed ≡ Ok list → EachSweepOutcome (LeavesTree X N p es) list t }
+{}
+
+/// Where a store tells what was written, whatever its Head and whether its tree is whole, each stop in the course of a
+/// sweep that keeps some CIDs leaves both notes, and under each of these CIDs what was held there: a collection syncs
+/// first. So where a collection keeps what the notes lead to, all that is below a pin was held, and is held after such
+/// a stop; and the next collection keeps the same.
+pub fn a_stop_of_a_collection_leaves_what_is_kept()
+    ensures kept { (t : Contents) (kept : List Cid) → IsPlain t → EachSweepOutcome (LeavesKept t kept) kept t }
+    ensures pins { (t : Contents) (pins list : List Cid) → IsPlain t → kept_in t (Some pins) ≡ Ok list
+        → EachSweepOutcome (LeavesBelow t pins) list t }
+    ensures again { (t : Contents) (pins list : List Cid) → IsPlain t → kept_in t (Some pins) ≡ Ok list
+        → EachSweepOutcome (KeepsAgain pins list) list t }
 {}
