@@ -158,10 +158,10 @@ module _ (X : List ℕ → List ℕ) (N : List ℕ → ℕ) where
   -- ---- calls
 
   pub calls-stand : (steps : List Step) (a b : Told) (s : Standing) → TellsAs X N a s → Calls X N steps a b → TellsAs X N b (standing_replied X N (done_in steps) s)
-  calls-stand [] a b s t h = subst (λ x. TellsAs X N x s) (sym h) t
+  calls-stand [] a b s t h = h.stands s t
   calls-stand (step ∷ steps) a b s t h =
       subst (TellsAs X N b) (sym (pick (was_done step) step X N (done_in steps) s))
-      (calls-stand steps (told_after step) b (after_call X N step s) (call-stands step h.1 s (subst (λ x. TellsAs X N x s) (sym h.0) t)) h.2)
+      (calls-stand steps (told_after step) b (after_call X N step s) (call-stands step h.1 s (h.0.stands s t)) h.2)
 
   -- ---- stops
 

@@ -1,6 +1,7 @@
 mod Batched
 pub mod Afresh
 pub mod Back
+pub mod Meanwhile
 pub mod Calling
 pub mod Doing
 pub mod Histories

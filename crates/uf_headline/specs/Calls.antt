@@ -104,9 +104,9 @@ module _ (X : List ℕ → List ℕ) (N : List ℕ → ℕ) where
     pub held : TellsBlocks (told_before step) step.held
     pub tells : CanTell step.asked step.outside step.before
 
-  -- calls one after the other
+  -- calls one after the other, with what may come between
   abbrev pub Calls : List Step → Told → Told → Type 0
-  Calls steps before now = InTurn IsCall steps before now
+  Calls steps before now = InTurn X N IsCall steps before now
 
   -- a call that began with the first contents has left the second
   pub record Happens (event : Event) (before now : Contents) : Type 0 where

@@ -14,9 +14,9 @@ ghost use Rattle.uf_headline.specs.History.{Step};
 ghost use Rattle.uf_headline.specs.Replies.{standing_replied};
 
 /// Calls one after the other, whatever they answer and whatever fails, over a store that stands for a tree, or has no
-/// Head or a bad one. It then stands for what those of them that were done make of the plain tree. No count of
-/// failures is at its last value before a call, since it would hide one there, and a failed call could pass for one
-/// that was done.
+/// Head or a bad one. Between them may come pulls, serves, collections and checks. It then stands for what those of the
+/// calls that were done make of the plain tree. No count of failures is at its last value before a call, since it
+/// would hide one there, and a failed call could pass for one that was done.
 pub fn what_fails_leaves_the_tree()
     ensures { (X : List ℕ → List ℕ) (N : List ℕ → ℕ) (steps : List Step) (before now : Told) (standing : Standing)
         → TellsAs X N before standing → Calls X N steps before now
