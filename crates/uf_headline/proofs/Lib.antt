@@ -2,6 +2,7 @@ mod Batched
 pub mod Afresh
 pub mod Back
 pub mod Meanwhile
+pub mod Pulled
 pub mod Calling
 pub mod Doing
 pub mod Histories

@@ -35,10 +35,10 @@ pub fn what_is_lost_leaves_the_tree_named()
 {}
 
 /// Calls one after the other, of which any may fail, or be stopped after any of its writes, over a store that is
-/// safe for a tree, as it is after `init`. It is then safe for what those that were done make of the tree. One that
-/// was stopped was done, or has left the tree as it was. The store tells what was written to it: a stop may take
-/// any block that was saved after the last sync, so of a tree whose blocks no sync has made durable nothing can be
-/// said.
+/// safe for a tree, as it is after `init`. Between them may come pulls, serves, collections and checks. It is then safe
+/// for what those that were done make of the tree. One that was stopped was done, or has left the tree as it was. The
+/// store tells what was written to it: a stop may take any block that was saved after the last sync, so of a tree whose
+/// blocks no sync has made durable nothing can be said.
 pub fn what_is_stopped_is_done_or_not()
     ensures { (X : List ℕ → List ℕ) (N : List ℕ → ℕ) (events : List Event) (before now : Contents) (p : Profile)
         (es : Entries) → IsHash X → ((name : List ℕ) → N name < 2 ^ 64) → IsSafeAs X N before (Stands p es)

@@ -13,6 +13,7 @@ ghost use Rattle.uf_tree.specs.Validity.{IsHash};
 ghost use Rattle.uf_tree.specs.declared.profile.Profile.{Profile};
 ghost use Rattle.uf_command.specs.Cars.{most_car};
 ghost use Rattle.uf_command.specs.Natures.{MakesHead};
+ghost use Rattle.uf_command.specs.declared.status.Status.{Status as TheStatus};
 ghost use Rattle.uf_command.specs.declared.status.Status.TheVariants as status;
 ghost use Rattle.uf_command.specs.declared.types.Command.{Command};
 ghost use Rattle.uf_command.specs.declared.types.Command.TheVariants as commands;
@@ -25,6 +26,7 @@ ghost use Rattle.uf_top.specs.Collecting.{EachSweepOutcome, kept_in};
 ghost use Rattle.uf_top.specs.Outcomes.{EachOutcome, EachStop, IsSafeFor, LeavesEither, LeavesNoneOr, LeavesTree};
 ghost use Rattle.uf_top.specs.Running.{Runs};
 ghost use Rattle.uf_top.specs.Shapes.{HeadAfter, WritesAs, WritesFor};
+ghost use Rattle.uf_top.specs.Talking.{RunsPull};
 
 /// What any stop leaves of a store that is safe for a tree stands for that tree.
 pub fn what_is_safe_survives_stops()
@@ -98,4 +100,16 @@ pub fn a_stop_of_a_collection_leaves_what_is_kept()
         → EachSweepOutcome (LeavesBelow t pins) list t }
     ensures again { (t : Contents) (pins list : List Cid) → IsPlain t → kept_in t (Some pins) ≡ Ok list
         → EachSweepOutcome (KeepsAgain pins list) list t }
+{}
+
+/// Where a store is safe for a tree, each stop after any of the writes of a pull leaves the tree, and after the pull
+/// the store is safe for it again, however it ended.
+pub fn a_stop_of_a_pull_leaves_the_tree()
+    ensures safe { (X : List ℕ → List ℕ) (N : List ℕ → ℕ) (cid : Cid) (given : TheStatus) (before now : Around)
+        (a b : Contents) (p : Profile) (es : Entries) → RunsPull X N cid given before now
+        → before.store.told ≡ Some a → now.store.told ≡ Some b → IsSafeFor X N a p es → IsSafeFor X N b p es }
+    ensures stops { (X : List ℕ → List ℕ) (N : List ℕ → ℕ) (cid : Cid) (given : TheStatus) (before now : Around)
+        (a b : Contents) (p : Profile) (es : Entries) → RunsPull X N cid given before now
+        → before.store.told ≡ Some a → now.store.told ≡ Some b → IsSafeFor X N a p es
+        → EachStop (LeavesTree X N p es) a b }
 {}
