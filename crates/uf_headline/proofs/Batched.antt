@@ -23,6 +23,7 @@ use Rattle.uf_top.proofs.Pins.{noted-pins}
 use Rattle.uf_headline.proofs.Ran.{line-ran}
 use Rattle.uf_headline.specs.Batched.{AreOfLines, asked_by, outside_line, with_last, with_word}
 use Rattle.uf_headline.specs.History.{History, IsDone, Step, step_of, told_after, told_before}
+use Rattle.uf_headline.proofs.Meanwhile.{between-same}
 use Rattle.uf_headline.proofs.Doing.{after_step, step-stands}
 
 module _ (X : List ℕ → List ℕ) (N : List ℕ → ℕ) (host : HostTree) where
@@ -106,13 +107,13 @@ module _ (X : List ℕ → List ℕ) (N : List ℕ → ℕ) (host : HostTree) wh
     are : AreOfLines host lines steps
 
   no-steps : (a b : Around) → SameButErrors a b → StepsOf [] a b
-  no-steps a b same = record { steps = []; history = ap (λ (x : Around). x.store.told) same; are = record { asked = refl; outside = tt } }
+  no-steps a b same = record { steps = []; history = between-same X N a.store.told b.store.told (ap (λ (x : Around). x.store.told) same); are = record { asked = refl; outside = tt } }
 
   -- a step in front of others
   behind-step : (line : List ℕ) (lines : List (List ℕ)) (a m c b : Around) → m.store.told ≡ c.store.told → StepOf line a m → StepsOf lines c b → StepsOf (line ∷ lines) a b
   behind-step line lines a m c b between one rest = record {
     steps = one.step ∷ rest.steps;
-    history = (one.first, one.done, subst (λ t. History X N rest.steps t b.store.told) (sym (one.last ∙ between)) rest.history);
+    history = (between-same X N a.store.told (told_before one.step) one.first, one.done, subst (λ t. History X N rest.steps t b.store.told) (sym (one.last ∙ between)) rest.history);
     are = record {
       asked = ap (λ l. one.step.asked ∷ l) rest.are.asked ∙ ap (λ o. with_word o (asked_by lines)) (sym one.asks);
       outside = (one.outside, rest.are.outside);

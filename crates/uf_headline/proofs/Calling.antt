@@ -158,10 +158,10 @@ module _ (X : List ℕ → List ℕ) (N : List ℕ → ℕ) where
   -- ---- calls
 
   pub calls-stand : (steps : List Step) (a b : Told) (s : Standing) → TellsAs X N a s → Calls X N steps a b → TellsAs X N b (standing_replied X N (done_in steps) s)
-  calls-stand [] a b s t h = subst (λ x. TellsAs X N x s) (sym h) t
+  calls-stand [] a b s t h = h.stands s t
   calls-stand (step ∷ steps) a b s t h =
       subst (TellsAs X N b) (sym (pick (was_done step) step X N (done_in steps) s))
-      (calls-stand steps (told_after step) b (after_call X N step s) (call-stands step h.1 s (subst (λ x. TellsAs X N x s) (sym h.0) t)) h.2)
+      (calls-stand steps (told_after step) b (after_call X N step s) (call-stands step h.1 s (h.0.stands s t)) h.2)
 
   -- ---- stops
 
@@ -172,7 +172,7 @@ module _ (X : List ℕ → List ℕ) (N : List ℕ → ℕ) where
   replied-tree (Ok command) o held p es = (entries_replied X N command o held p es, refl)
 
   -- what is opened over what a stop left of a tree is safe for it
-  reopened-safe : (ws : List Write) (t : Contents) (p : Profile) (es : Entries) → IsReopened ws t → LeavesTree X N p es t.held t.notes → IsSafeFor X N t p es
+  pub reopened-safe : (ws : List Write) (t : Contents) (p : Profile) (es : Entries) → IsReopened ws t → LeavesTree X N p es t.held t.notes → IsSafeFor X N t p es
   reopened-safe ws t p es again stands = record {
     stands = stands;
     text = (note-text t.notes.head p (entry X N p (Dir es)).cid stands.head_is).0;
@@ -237,11 +237,11 @@ module _ (X : List ℕ → List ℕ) (N : List ℕ → ℕ) where
     )
 
     pub all-stand : (events : List Event) (a b : Contents) (es : Entries) → IsSafeFor X N a p es → AllHappen X N events a b → Ends events (Stands p es) b
-    all-stand [] a b es safe h = ([], refl, subst (λ t. IsSafeFor X N t p es) (sym h) safe)
+    all-stand [] a b es safe h = ([], refl, h.safe p es safe)
     all-stand (event ∷ events) a b es safe h =
-        let one = h.1 in
-        let m = may-stand event.step one.call a one.whole one.first one.last es safe event.end h.0 one.left in
-        ends-more event events h.0 b es m (all-stand events h.0 b m.fs m.safe h.2)
+        let one = h.3 in
+        let m = may-stand event.step one.call h.0 one.whole one.first one.last es (h.1.safe p es safe) event.end h.2 one.left in
+        ends-more event events h.2 b es m (all-stand events h.2 b m.fs m.safe h.4)
 
   -- ---- lost blocks
 

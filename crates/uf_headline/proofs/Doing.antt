@@ -359,9 +359,9 @@ module _ (X : List ℕ → List ℕ) (N : List ℕ → ℕ) where
   step-stands step d s t = subst (TellsAs X N (told_after step)) (next-is step d s t) (next-stands X N step d s t)
 
   pub history-stands : (steps : List Step) (a b : Told) (s : Standing) → TellsAs X N a s → History X N steps a b → TellsAs X N b (standing_after tree_at steps s)
-  history-stands [] a b s t h = subst (λ x. TellsAs X N x s) (sym h) t
+  history-stands [] a b s t h = h.stands s t
   history-stands (step ∷ steps) a b s t h =
-      history-stands steps (told_after step) b (after_step step s) (step-stands step h.1 s (subst (λ x. TellsAs X N x s) (sym h.0) t)) h.2
+      history-stands steps (told_after step) b (after_step step s) (step-stands step h.1 s (h.0.stands s t)) h.2
 
   -- what a history that makes it leaves
   pub makes-stands : (steps : List Step) (a b : Told) (s last : Standing) → Makes X N steps a b s last → TellsAs X N b last

@@ -51,11 +51,11 @@ cut (x ∷ xs) ys (d ∷ done) rest e =
     by (inl m) same = inl (m.0, (let e : xs ≡ done ++ m.0 = m.1 in let f : x ∷ xs ≡ d ∷ (done ++ m.0) = cc in f))
     by (inr m) same = inr (m.0, (let e : done ≡ xs ++ m.0 = m.1 in let f : d ∷ done ≡ x ∷ (xs ++ m.0) = cc in f), m.2)
 
-each-front : (IsOne : Write → Type 0) (done more : List Write) → AllByRecursion IsOne (done ++ more) → AllByRecursion IsOne done
+pub each-front : (IsOne : Write → Type 0) (done more : List Write) → AllByRecursion IsOne (done ++ more) → AllByRecursion IsOne done
 each-front IsOne [] more h = tt
 each-front IsOne (w ∷ done) more h = (h.0, each-front IsOne done more h.1)
 
-replace-front : (hash : List ℕ → List ℕ) (m : HeldMap) (done more : List Write) → ReplaceNone hash m (done ++ more) → ReplaceNone hash m done
+pub replace-front : (hash : List ℕ → List ℕ) (m : HeldMap) (done more : List Write) → ReplaceNone hash m (done ++ more) → ReplaceNone hash m done
 replace-front hash m [] more h = tt
 replace-front hash m (Saved cid bytes ∷ done) more h = (h.0, h.1, replace-front hash (insert m cid bytes) done more h.2)
 replace-front hash m (Synced ∷ done) more h = replace-front hash m done more h

@@ -1,6 +1,8 @@
 mod Batched
 pub mod Afresh
 pub mod Back
+pub mod Meanwhile
+pub mod Pulled
 pub mod Calling
 pub mod Doing
 pub mod Histories
@@ -21,6 +23,7 @@ pub mod BatchReplies
 pub mod BatchStops
 pub mod BatchTexts
 pub mod Firm
+pub mod Spared
 pub mod Heights
 pub mod LineHosts
 pub mod Ran

@@ -17,6 +17,7 @@ use Rattle.uf_headline.specs.BatchLines.{AllCanRise}
 use Rattle.uf_top.specs.Naming.{TellsBlocks}
 use Rattle.uf_headline.proofs.LineHosts.{Suits, asks-suits}
 use Rattle.uf_top.proofs.Pins.{noted-pins}
+use Rattle.uf_headline.proofs.Meanwhile.{between-same}
 use Rattle.uf_headline.proofs.Ran.{line-ran}
 use Rattle.uf_headline.specs.Batched.{AreCallsOf, IsOfLine, outside_line, with_last}
 use Rattle.uf_headline.specs.Calls.{Calls, IsCall}
@@ -115,13 +116,13 @@ module _ (X : List ℕ → List ℕ) (N : List ℕ → ℕ) (host : HostTree) wh
     are : AreCallsOf host lines steps
 
   no-calls : (a b : Around) → SameButErrors a b → CallsOf [] a b
-  no-calls a b same = record { steps = []; calls = ap (λ (x : Around). x.store.told) same; are = refl }
+  no-calls a b same = record { steps = []; calls = between-same X N a.store.told b.store.told (ap (λ (x : Around). x.store.told) same); are = refl }
 
   -- a call in front of others
   behind-call : (line : List ℕ) (lines : List (List ℕ)) (a m c b : Around) → m.store.told ≡ c.store.told → CallOf line a m → CallsOf lines c b → CallsOf (line ∷ lines) a b
   behind-call line lines a m c b between one rest = record {
     steps = one.step ∷ rest.steps;
-    calls = (one.first, one.call, subst (λ t. Calls X N rest.steps t b.store.told) (sym (one.last ∙ between)) rest.calls);
+    calls = (between-same X N a.store.told (told_before one.step) one.first, one.call, subst (λ t. Calls X N rest.steps t b.store.told) (sym (one.last ∙ between)) rest.calls);
     are = inr (one.step, rest.steps, refl, one.of, one.outside, rest.are);
   }
 

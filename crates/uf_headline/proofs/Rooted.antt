@@ -240,14 +240,15 @@ module _ (X : List ℕ → List ℕ) (N : List ℕ → ℕ) where
   ran-new : (step : Step) → RanWell X N step → IsNew (head_in (told_before step)) → IsNew (head_in (told_after step))
   ran-new step r n = asked-new X step.asked (is_done step.given) (told_before step) (told_after step) (step-ran X N step r.runs).writes n
 
-  all-stand : (steps : List Step) (a b : Told) (s : Standing) → TellsAs X N a s → InTurn (RanWell X N) steps a b → TellsAs X N b (standing_after tree_at steps s)
-  all-stand [] a b s t h = subst (λ x. TellsAs X N x s) (sym h) t
+  all-stand : (steps : List Step) (a b : Told) (s : Standing) → TellsAs X N a s → InTurn X N (RanWell X N) steps a b → TellsAs X N b (standing_after tree_at steps s)
+  all-stand [] a b s t h = h.stands s t
   all-stand (step ∷ steps) a b s t h =
-      all-stand steps (told_after step) b (after_step step s) (ran-stands step h.1 s (subst (λ x. TellsAs X N x s) (sym h.0) t)) h.2
+      all-stand steps (told_after step) b (after_step step s) (ran-stands step h.1 s (h.0.stands s t)) h.2
 
-  all-new : (steps : List Step) (a b : Told) → IsNew (head_in a) → InTurn (RanWell X N) steps a b → IsNew (head_in b)
-  all-new [] a b n h = subst (λ x. IsNew (head_in x)) (sym h) n
-  all-new (step ∷ steps) a b n h = all-new steps (told_after step) b (ran-new step h.1 (subst (λ x. IsNew (head_in x)) (sym h.0) n)) h.2
+  all-new : (steps : List Step) (a b : Told) (s : Standing) → TellsAs X N a s → IsNew (head_in a) → InTurn X N (RanWell X N) steps a b → IsNew (head_in b)
+  all-new [] a b s t n h = same-new a b (h.head s t) n
+  all-new (step ∷ steps) a b s t n h =
+      all-new steps (told_after step) b (after_step step s) (ran-stands step h.1 s (h.0.stands s t)) (ran-new step h.1 (same-new a (told_before step) (h.0.head s t) n)) h.2
 
   -- ---- what they led to
 
@@ -255,7 +256,7 @@ module _ (X : List ℕ → List ℕ) (N : List ℕ → ℕ) where
   led-stands now s l = subst (TellsAs X N now) l.made (all-stand l.steps (Some l.first) now NoHead l.headless l.ran)
 
   led-new : (now : Told) (s : Standing) → LedTo X N tree_at now s → IsNew (head_in now)
-  led-new now s l = all-new l.steps (Some l.first) now (subst IsNew (sym l.headless) tt) l.ran
+  led-new now s l = all-new l.steps (Some l.first) now NoHead l.headless (subst IsNew (sym l.headless) tt) l.ran
 
   abbrev root-of : Profile → Tree → Cid
   root-of p t = (entry X N p t).cid
@@ -311,6 +312,6 @@ module _ (X : List ℕ → List ℕ) (N : List ℕ → ℕ) where
     };
   }
 
-  pub history-ran : (steps : List Step) (a b : Told) → History X N steps a b → InTurn (RanWell X N) steps a b
+  pub history-ran : (steps : List Step) (a b : Told) → History X N steps a b → InTurn X N (RanWell X N) steps a b
   history-ran [] a b h = h
   history-ran (step ∷ steps) a b h = (h.0, done-ran step h.1, history-ran steps (told_after step) b h.2)

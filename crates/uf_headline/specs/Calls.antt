@@ -22,8 +22,9 @@ use Rattle.uf_top.specs.Naming.{TellsBlocks}
 use Rattle.uf_top.specs.Outcomes.{IsSafeFor}
 use Rattle.uf_top.specs.Reply.{Outside}
 use Rattle.uf_tree.specs.Standing.{Standing, NoHead, BadHead, Stands}
-use Rattle.uf_tree.specs.Tree.{Dir}
+use Rattle.uf_tree.specs.Tree.{Dir, Entries}
 use Rattle.uf_tree.specs.TreePlan.{blocks}
+use Rattle.uf_tree.specs.declared.profile.Profile.{Profile}
 use Rattle.uf_headline.specs.History.{DidRun, InTurn, Step, told_after, told_before}
 use Rattle.uf_headline.specs.Replies.{replied_by}
 
@@ -103,9 +104,9 @@ module _ (X : List ℕ → List ℕ) (N : List ℕ → ℕ) where
     pub held : TellsBlocks (told_before step) step.held
     pub tells : CanTell step.asked step.outside step.before
 
-  -- calls one after the other
+  -- calls one after the other, with what may come between
   abbrev pub Calls : List Step → Told → Told → Type 0
-  Calls steps before now = InTurn IsCall steps before now
+  Calls steps before now = InTurn X N IsCall steps before now
 
   -- a call that began with the first contents has left the second
   pub record Happens (event : Event) (before now : Contents) : Type 0 where
@@ -115,11 +116,15 @@ module _ (X : List ℕ → List ℕ) (N : List ℕ → ℕ) where
     pub call : IsCall event.step
     pub left : LeftBy event.end before whole now
 
-  -- calls one after the other, of which any may have been stopped
+  -- what may come between two of them: a store that is safe for a tree stays so
+  pub record SafelyBetween (before now : Contents) : Type 0 where
+    pub safe : (p : Profile) (es : Entries) → IsSafeFor X N before p es → IsSafeFor X N now p es
+
+  -- calls one after the other, of which any may have been stopped, with what may come between
   abbrev pub AllHappen : List Event → Contents → Contents → Type 0
-  AllHappen [] before now = now ≡ before
-  AllHappen (event ∷ events) before now =
-      (between : Contents) × Happens event before between × AllHappen events between now
+  AllHappen [] before now = SafelyBetween before now
+  AllHappen (event ∷ events) before now = (found : Contents) × SafelyBetween before found × (between : Contents)
+      × Happens event found between × AllHappen events between now
 
   -- what is told stands for a tree, and no stop takes any of that away
   abbrev pub IsSafeAs : Contents → Standing → Type 0

@@ -7,6 +7,7 @@ pub mod Places
 pub mod Replies
 pub mod Roots
 pub mod Added
+pub mod Spared
 pub mod BatchLines
 pub mod BatchReplies
 pub mod BatchTexts

@@ -61,12 +61,13 @@ module _ (X : List ℕ → List ℕ) (N : List ℕ → ℕ) where
     pub runs : DidRun X N step
     pub well : WentWell step
 
-  -- steps in turn over a store that had no Head at first have led to what is told, and make this of the plain tree
+  -- steps in turn over a store that had no Head at first, with what may come between, have led to what is told, and
+  -- make this of the plain tree
   pub record LedTo (found : Lookup → DagPath → Result Tree DagFault) (now : Told) (standing : Standing) : Type 0 where
     pub first : Contents
     pub headless : first.notes.head ≡ None
     pub steps : List Step
-    pub ran : InTurn RanWell steps (Some first) now
+    pub ran : InTurn X N RanWell steps (Some first) now
     pub made : standing_after found steps NoHead ≡ standing
 
   -- these two functions give the CID of every tree, by a profile, and the tree to which a path in a DAG of others

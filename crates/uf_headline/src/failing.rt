@@ -14,9 +14,9 @@ ghost use Rattle.uf_headline.specs.History.{Step};
 ghost use Rattle.uf_headline.specs.Replies.{standing_replied};
 
 /// Calls one after the other, whatever they answer and whatever fails, over a store that stands for a tree, or has no
-/// Head or a bad one. It then stands for what those of them that were done make of the plain tree. No count of
-/// failures is at its last value before a call, since it would hide one there, and a failed call could pass for one
-/// that was done.
+/// Head or a bad one. Between them may come pulls, serves, collections and checks. It then stands for what those of the
+/// calls that were done make of the plain tree. No count of failures is at its last value before a call, since it
+/// would hide one there, and a failed call could pass for one that was done.
 pub fn what_fails_leaves_the_tree()
     ensures { (X : List ℕ → List ℕ) (N : List ℕ → ℕ) (steps : List Step) (before now : Told) (standing : Standing)
         → TellsAs X N before standing → Calls X N steps before now
@@ -34,10 +34,10 @@ pub fn what_is_lost_leaves_the_tree_named()
 {}
 
 /// Calls one after the other, of which any may fail, or be stopped after any of its writes, over a store that is
-/// safe for a tree, as it is after `init`. It is then safe for what those that were done make of the tree. One that
-/// was stopped was done, or has left the tree as it was. The store tells what was written to it: a stop may take
-/// any block that was saved after the last sync, so of a tree whose blocks no sync has made durable nothing can be
-/// said.
+/// safe for a tree, as it is after `init`. Between them may come pulls, serves, collections and checks. It is then safe
+/// for what those that were done make of the tree. One that was stopped was done, or has left the tree as it was. The
+/// store tells what was written to it: a stop may take any block that was saved after the last sync, so of a tree whose
+/// blocks no sync has made durable nothing can be said.
 pub fn what_is_stopped_is_done_or_not()
     ensures { (X : List ℕ → List ℕ) (N : List ℕ → ℕ) (events : List Event) (before now : Contents) (p : Profile)
         (es : Entries) → IsHash X → ((name : List ℕ) → N name < 2 ^ 64) → IsSafeAs X N before (Stands p es)

@@ -4,6 +4,7 @@
 
 pub mod batch_lines;
 mod batches;
+mod between;
 mod failing;
 mod paths;
 mod replies;
@@ -26,6 +27,7 @@ ghost use Rattle.uf_headline.specs.History.{standing_after};
 ghost use Rattle.uf_headline.specs.Places.{place_at};
 
 pub use batches::{a_batch_is_a_history, a_batch_is_a_list_of_calls};
+pub use between::{pulls_and_collections_come_between, pulls_and_collections_leave_a_tree_safe};
 pub use failing::{
     what_fails_leaves_the_tree, what_is_lost_leaves_the_tree_named, what_is_stopped_is_done_or_not,
 };
@@ -35,8 +37,8 @@ pub use roots::{a_history_ran_well, roots_are_of_trees_alone, roots_are_those_of
 pub use steps::run_a_step;
 
 /// Commands given in turn, each answered as `run` says, over a store that stands for a tree, or has no Head or a bad
-/// one, where nothing failed, no clash was met and it wasn't out of memory. The store then stands for what those that
-/// were done make of the plain tree.
+/// one, where nothing failed, no clash was met and it wasn't out of memory. Between them may come pulls, serves,
+/// collections and checks. The store then stands for what those that were done make of the plain tree.
 pub fn a_history_gives_its_tree()
     ensures { (X : List ℕ → List ℕ) (N : List ℕ → ℕ) (steps : List Step) (before now : Told) (standing : Standing)
         → TellsAs X N before standing → History X N steps before now

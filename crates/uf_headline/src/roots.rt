@@ -15,10 +15,11 @@ ghost use Rattle.uf_headline.specs.Roots.{RanWell, RootsBy};
 
 /// The root CID is a function of the tree alone: of its names, its bytes and its metadata. There is a function that
 /// gives the CID of every tree, by a profile. Take any list of commands over a store that had no Head at first, each
-/// as `run` says, where nothing failed, no clash was met and none was out of memory. After it the Head names the CID
-/// of the tree that they make, byte for byte; `files stat` of a path prints first the CID of what is there. `add -n`
-/// of a host's file or folder prints last the CID of the same names and bytes. A copy from a DAG of others finds a
-/// tree that is a function of the blocks alone.
+/// as `run` says, where nothing failed, no clash was met and none was out of memory. Between them may come pulls,
+/// serves, collections and checks, however these ended. After it the Head names the CID of the tree that they make,
+/// byte for byte; `files stat` of a path prints first the CID of what is there. `add -n` of a host's file or folder
+/// prints last the CID of the same names and bytes. A copy from a DAG of others finds a tree that is a function of the
+/// blocks alone.
 pub fn roots_are_of_trees_alone()
     ensures { (X : List ℕ → List ℕ) (N : List ℕ → ℕ)
         → (root : Profile → Tree → Cid) × (found : Lookup → DagPath → TheResult Tree DagFault)
@@ -33,5 +34,5 @@ pub fn roots_are_those_of_plans()
 /// Steps of a history, those of a batch too, are such commands.
 pub fn a_history_ran_well()
     ensures { (X : List ℕ → List ℕ) (N : List ℕ → ℕ) (steps : List Step) (before now : Told)
-        → History X N steps before now → InTurn (RanWell X N) steps before now }
+        → History X N steps before now → InTurn X N (RanWell X N) steps before now }
 {}

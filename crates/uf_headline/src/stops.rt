@@ -13,17 +13,20 @@ ghost use Rattle.uf_tree.specs.Validity.{IsHash};
 ghost use Rattle.uf_tree.specs.declared.profile.Profile.{Profile};
 ghost use Rattle.uf_command.specs.Cars.{most_car};
 ghost use Rattle.uf_command.specs.Natures.{MakesHead};
+ghost use Rattle.uf_command.specs.declared.status.Status.{Status as TheStatus};
 ghost use Rattle.uf_command.specs.declared.status.Status.TheVariants as status;
 ghost use Rattle.uf_command.specs.declared.types.Command.{Command};
 ghost use Rattle.uf_command.specs.declared.types.Command.TheVariants as commands;
 ghost use Rattle.uf_command.specs.declared.types.Adding.TheVariants as adding;
 ghost use Rattle.uf_command.specs.declared.types.Refusal.{Refusal};
 ghost use Rattle.uf_headline.specs.Added.{EachHolds, KeepsHosted, KeepsInput};
+ghost use Rattle.uf_headline.specs.Spared.{KeepsAgain, LeavesBelow, LeavesKept};
 ghost use Rattle.uf_top.specs.Around.{Around, CountsCanRise};
 ghost use Rattle.uf_top.specs.Collecting.{EachSweepOutcome, kept_in};
 ghost use Rattle.uf_top.specs.Outcomes.{EachOutcome, EachStop, IsSafeFor, LeavesEither, LeavesNoneOr, LeavesTree};
 ghost use Rattle.uf_top.specs.Running.{Runs};
 ghost use Rattle.uf_top.specs.Shapes.{HeadAfter, WritesAs, WritesFor};
+ghost use Rattle.uf_top.specs.Talking.{RunsPull};
 
 /// What any stop leaves of a store that is safe for a tree stands for that tree.
 pub fn what_is_safe_survives_stops()
@@ -85,4 +88,28 @@ pub fn a_stop_of_a_collection_leaves_the_tree()
     ensures { (X : List ℕ → List ℕ) (N : List ℕ → ℕ) (t : Contents) (listed : Option (List Cid)) (list : List Cid)
         (p : Profile) (es : Entries) → IsHash X → ((name : List ℕ) → N name < 2 ^ 64)
         → IsSafeFor X N t p es → kept_in t listed ≡ Ok list → EachSweepOutcome (LeavesTree X N p es) list t }
+{}
+
+/// Where a store tells what was written, whatever its Head and whether its tree is whole, each stop in the course of a
+/// sweep that keeps some CIDs leaves both notes, and under each of these CIDs what was held there: a collection syncs
+/// first. So where a collection keeps what the notes lead to, all that is below a pin was held, and is held after such
+/// a stop; and the next collection keeps the same.
+pub fn a_stop_of_a_collection_leaves_what_is_kept()
+    ensures kept { (t : Contents) (kept : List Cid) → IsPlain t → EachSweepOutcome (LeavesKept t kept) kept t }
+    ensures pins { (t : Contents) (pins list : List Cid) → IsPlain t → kept_in t (Some pins) ≡ Ok list
+        → EachSweepOutcome (LeavesBelow t pins) list t }
+    ensures again { (t : Contents) (pins list : List Cid) → IsPlain t → kept_in t (Some pins) ≡ Ok list
+        → EachSweepOutcome (KeepsAgain pins list) list t }
+{}
+
+/// Where a store is safe for a tree, each stop after any of the writes of a pull leaves the tree, and after the pull
+/// the store is safe for it again, however it ended.
+pub fn a_stop_of_a_pull_leaves_the_tree()
+    ensures safe { (X : List ℕ → List ℕ) (N : List ℕ → ℕ) (cid : Cid) (given : TheStatus) (before now : Around)
+        (a b : Contents) (p : Profile) (es : Entries) → RunsPull X N cid given before now
+        → before.store.told ≡ Some a → now.store.told ≡ Some b → IsSafeFor X N a p es → IsSafeFor X N b p es }
+    ensures stops { (X : List ℕ → List ℕ) (N : List ℕ → ℕ) (cid : Cid) (given : TheStatus) (before now : Around)
+        (a b : Contents) (p : Profile) (es : Entries) → RunsPull X N cid given before now
+        → before.store.told ≡ Some a → now.store.told ≡ Some b → IsSafeFor X N a p es
+        → EachStop (LeavesTree X N p es) a b }
 {}
