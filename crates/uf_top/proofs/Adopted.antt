@@ -57,6 +57,7 @@ use Rattle.uf_top.proofs.Losing.{move-over, named-of, named-between, named-from,
 use Rattle.uf_top.proofs.Printing.{after-nothing, nothing-printed, quiet-of, rises-still}
 use Rattle.uf_top.proofs.Shows.{Shown-opening, Shown-tree, bad-of-head, bad-of-none, counts-still, opening-touched, tree-touched}
 use Rattle.uf_top.proofs.Standings.{stands-same, tells-none}
+use Rattle.uf_top.proofs.Unready.{not-unready}
 
 -- ---- kinds
 
@@ -320,6 +321,8 @@ module _ (X : List ℕ → List ℕ) (N : List ℕ → ℕ) where
           whole = λ s needs stands quiet2. absurd cc;
           touches = λ p es bytes rows named input heights quiet2. tt;
           touched = (opening-touched Mfs f why t0 t1 is up).risen;
+          unready = λ or_none e is. record { told = told; left = refl; reads = refl };
+          unplaced = λ p es names stood none. absurd none;
           leaves = record {
             good = KeepsGood-same X a.told m.told told;
             head = ap head_in told;
@@ -398,6 +401,8 @@ module _ (X : List ℕ → List ℕ) (N : List ℕ → ℕ) where
             whole = λ s needs stands quiet2. absurd cc;
             touches = λ p es bytes rows named input heights quiet2. tt;
             touched = λ blames. let more = g.touched blames in omega (arith, low, more);
+            unready = λ or_none e is. absurd (not-unready {A = Unit {0}} graft_kinds (Err why) refl refl g.kinds is);
+            unplaced = λ p es names stood none. absurd none;
             leaves = record {
               good = all_good (Err why) g;
               head = g.head ∙ ap head_in told;
@@ -427,6 +432,8 @@ module _ (X : List ℕ → List ℕ) (N : List ℕ → ℕ) where
         whole = λ s needs stands quiet2. absurd cc;
         touches = λ p es bytes rows named input heights quiet2. tt;
         touched = λ blames. absurd blames;
+        unready = λ or_none e is. absurd cc;
+        unplaced = λ p es names stood none. absurd none;
         leaves = record { good = all_good (Ok tt) g; head = tt; writes = subst (λ t. WritesAs X MovesHead true t b.told) told g.writes; idle = λ p es bytes names calm same. absurd cc };
       }
 

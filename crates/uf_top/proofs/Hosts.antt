@@ -1,5 +1,5 @@
 -- How what a host has is added.
-use Rattle.std.proofs.Common.{◌≡◌, ℕ, ◌+◌, ◌≤◌, List, [], Bool, true, false, refl, sym, ap, subst, ◌∙◌, inl, inr, Option, Some, None, Result, Ok, Err}
+use Rattle.std.proofs.Common.{◌≡◌, ◌≢◌, ℕ, ◌+◌, ◌≤◌, List, [], Bool, true, false, refl, sym, ap, subst, ◌∙◌, inl, inr, Option, Some, None, Result, Ok, Err}
 use Rattle.std.specs.Prelude.{IfOk, IfSome, OnOk}
 use Rattle.uf_cid.specs.Blocks.{Held}
 use Rattle.uf_edge.specs.Counts.{Counts, Stood}
@@ -31,7 +31,8 @@ use Rattle.uf_tree.specs.Validity.{IsHash}
 use Rattle.uf_tree.specs.declared.profile.Profile.{Profile}
 use Rattle.uf_command.specs.Natures.{SyncsBlocks, command_writes}
 use Rattle.uf_command.specs.Kinds.{add_host_kinds, IsOf, OfBadBlock, OfSections, OfMissing, fault_kind, may_meet, refusal_fault, refusal_kind}
-use Rattle.uf_command.specs.Statuses.{ended, no_memory}
+use Rattle.uf_command.specs.Statuses.{ended, no_memory, status_of}
+use Rattle.uf_command.specs.declared.status.Status.TheVariants as status
 use Rattle.uf_command.specs.declared.types.Command.TheVariants.{Add}
 use Rattle.uf_command.specs.declared.types.Adding.TheVariants as adding
 use Rattle.uf_command.specs.declared.types.HostRule.{HostRule}
@@ -57,6 +58,7 @@ use Rattle.uf_top.proofs.Inputs.{add-head}
 use Rattle.uf_top.proofs.Losing.{lost-wants, names-kept, names-same}
 use Rattle.uf_top.proofs.Shows.{counts-still, no-touch, not-rose, saving-wants, shown-any, wants-shown}
 use Rattle.uf_top.proofs.Standings.{leaves-holds, names-read, names-says, names-there, standing-bad, standing-none, standing-says, stands-kept, stands-same, tells-held, tells-none}
+use Rattle.uf_top.proofs.Unready.{store-unready}
 
 -- ---- how adding from a host ends, where it is refused
 
@@ -199,6 +201,16 @@ module _ (X : List ℕ → List ℕ) (N : List ℕ → ℕ) where
       by (ByHost rule e is) = subst (λ w. IsReady {A = List ℕ} told (Add (adding.Host recursive only_hash path)) (Err w)) (sym e) tt
       by (ByRule rule e is) = subst (λ w. IsReady {A = List ℕ} told (Add (adding.Host recursive only_hash path)) (Err w)) (sym e) tt
 
+  text-unready : (p : Profile) (held : Told) (host : HostTold) (recursive : Bool) (path : List ℕ) (r : Result (List ℕ) Refusal) → MakesHostText X N p held host recursive path r → ended r ≢ status.NotReady
+  text-unready p held host recursive path (Ok text) h is = cc
+  text-unready p held host recursive path (Err why) h is = by (end-of path _ why h)
+    where
+      by : {Said : HostFault → Type 0} → HostEnd path Said why → ⊥
+      by (ByRead e) = (let i : status.ReadFault ≡ status.NotReady = subst (λ w. status_of w ≡ status.NotReady) e is in cc)
+      by (ByStore f e saving) = store-unready f (subst (λ w. status_of w ≡ status.NotReady) e is)
+      by (ByHost rule e said) = (let i : status.Rule ≡ status.NotReady = subst (λ w. status_of w ≡ status.NotReady) e is in cc)
+      by (ByRule rule e said) = (let i : status.Rule ≡ status.NotReady = subst (λ w. status_of w ≡ status.NotReady) e is in cc)
+
   text-rows : (p : Profile) (held told now : Told) (host : HostTold) (recursive only_hash : Bool) (path : List ℕ) (r : Result (List ℕ) Refusal) → ((list : List Held) → Holds held list → HoldsUnless only_hash now list)
       → IfSome told (λ t. AddsBy only_hash t.notes.head p) → MakesHostText X N p held host recursive path r → IfOk r (λ text. AreHostRows X N told now host recursive only_hash path text)
   text-rows p held told now host recursive only_hash path (Ok text) keeps by h =
@@ -325,6 +337,8 @@ module _ (X : List ℕ → List ℕ) (N : List ℕ → ℕ) where
           whole = λ s stands calm. host-finds (Err why) (head-kind a.told why end);
           touches = λ p es bytes rows named input heights calm. from-touch recursive only_hash path bytes X N rows p es t0;
           touched = λ blames. absurd (host-blames (Err why) (head-kind a.told why end) blames);
+          unready = λ or_none e is. record { told = told; left = refl; reads = refl };
+          unplaced = λ p es names stood none. absurd none;
           leaves = record { good = KeepsGood-same X a.told m.told told; head = ap head_in told; writes = from-same X recursive only_hash path a.told m.told told; idle = λ p es bytes stands calm same. absurd cc };
         }
 
@@ -344,6 +358,8 @@ module _ (X : List ℕ → List ℕ) (N : List ℕ → ℕ) where
       whole = λ s stands calm2. host-finds (Err (refusal.Ready ready.NoHead)) refl;
       touches = λ p es bytes rows named input heights calm2. tt;
       touched = λ blames. absurd blames;
+      unready = λ or_none e is. record { told = told; left = refl; reads = refl };
+      unplaced = λ p es names stood none. absurd none;
       leaves = record { good = KeepsGood-same X a.told m.told told; head = ap head_in told; writes = from-same X recursive false path a.told m.told told; idle = λ p es bytes stands calm same. absurd cc };
     }
 
@@ -379,6 +395,8 @@ module _ (X : List ℕ → List ℕ) (N : List ℕ → ℕ) where
             whole = λ s stands calm2. host-finds r kinds;
             touches = λ q es bytes rows named input heights calm2. tt;
             touched = λ blames. absurd (host-blames r kinds blames);
+            unready = λ or_none e is. absurd (text-unready p b.told side.told recursive path r text is);
+            unplaced = λ p es names stood none. absurd none;
             leaves = record { good = keeps; head = stays-same r a.told b.told head; writes = written; idle = λ q es bytes stands calm same. absurd cc };
           }
 
@@ -410,6 +428,8 @@ module _ (X : List ℕ → List ℕ) (N : List ℕ → ℕ) where
             whole = λ s stands calm2. host-finds r kinds;
             touches = λ q es bytes rows named input heights calm2. no-touch (Some 0) t0;
             touched = λ blames. absurd (host-blames r kinds blames);
+            unready = λ or_none e is. absurd (text-unready p None side.told recursive path r text is);
+            unplaced = λ p es names stood none. absurd none;
             leaves = record { good = KeepsGood-same X a.told m.told told; head = stays-same r a.told m.told (ap head_in told); writes = told; idle = λ q es bytes stands calm same. absurd cc };
           }
 

@@ -280,6 +280,8 @@ module _ (X : List ℕ → List ℕ) (N : List ℕ → ℕ) (a b : Seen) (l m : 
         whole = λ s needs stands calm. absurd cc;
         touches = λ p es bytes rows named input heights calm. tt;
         touched = λ blames. absurd (of.blames blames);
+        unready = λ or_none e is. absurd cc;
+        unplaced = λ p es names stood none. absurd none;
         leaves = record { good = k.good; head = head; writes = subst (λ d. WritesAs X SyncsBlocks d a.told b.told) (sym quiet.undone) k.writes; idle = λ p es bytes stands calm is. absurd cc };
       }
     where
@@ -323,6 +325,8 @@ module _ (X : List ℕ → List ℕ) (N : List ℕ → ℕ) (a b : Seen) (l m : 
       whole = λ s needs stands calm. absurd cc;
       touches = λ p es bytes rows named input heights calm. tt;
       touched = λ blames. absurd blames;
+      unready = λ or_none e is. absurd cc;
+      unplaced = λ p es names stood none. absurd none;
       leaves = record { good = k.good; head = tt; writes = k.writes; idle = λ p es bytes stands calm is. absurd cc };
     }
       where
@@ -355,6 +359,8 @@ module _ (X : List ℕ → List ℕ) (N : List ℕ → ℕ) (a b : Seen) (l m : 
       whole = λ s needs stands calm. absurd cc;
       touches = λ p es bytes rows named input heights calm. tt;
       touched = λ blames. absurd blames;
+      unready = λ or_none e is. absurd cc;
+      unplaced = λ p es names stood none. absurd none;
       leaves = record { good = k.good; head = head-same; writes = k.writes; idle = λ p es bytes stands calm is. absurd cc };
     }
 

@@ -37,6 +37,7 @@ use Rattle.uf_top.proofs.Losing.{names-kept, names-same}
 use Rattle.uf_top.proofs.Finding.{add-whole}
 use Rattle.uf_top.proofs.Shows.{add-blames, counts-still, no-rows, no-touch, shown-any, wants-shown}
 use Rattle.uf_top.proofs.Standings.{names-there, stands-kept, stands-same, tells-held, tells-none}
+use Rattle.uf_top.proofs.Unready.{row-unready}
 
 -- where nothing was written, a refused `add` has written what it may
 add-same : (X : List ℕ → List ℕ) (only_hash : Bool) (a b : Told) → b ≡ a → WritesAs X (command_writes (Add (adding.Input only_hash))) false a b
@@ -73,6 +74,8 @@ module _ (X : List ℕ → List ℕ) (hash : IsHash X) (N : List ℕ → ℕ) (a
     touches = λ p es bytes rows named input heights calm. no-touch (command_touches X N rows bytes (Add (adding.Input only_hash)) p es) t0;
     whole = λ s stands calm. add-whole (Err why) (read-kinds why a.told read);
     touched = λ blames. absurd (add-blames (Err why) (read-kinds why a.told read) blames);
+    unready = λ or_none e is. record { told = told; left = refl; reads = refl };
+    unplaced = λ p es names stood none. absurd none;
     leaves = record { good = KeepsGood-same X a.told m.told told; head = ap head_in told; writes = add-same X only_hash a.told m.told told; idle = λ p es bytes stands calm same. told };
   }
 
@@ -91,6 +94,8 @@ module _ (X : List ℕ → List ℕ) (hash : IsHash X) (N : List ℕ → ℕ) (a
     touches = λ p es bytes rows named input heights calm2. tt;
     whole = λ s stands calm2. add-whole (Err (refusal.Ready ready.NoHead)) refl;
     touched = λ blames. absurd blames;
+    unready = λ or_none e is. record { told = told; left = refl; reads = refl };
+    unplaced = λ p es names stood none. absurd none;
     leaves = record { good = KeepsGood-same X a.told m.told told; head = ap head_in told; writes = add-same X false a.told m.told told; idle = λ p es bytes stands calm same. told };
   }
 
@@ -125,6 +130,8 @@ module _ (X : List ℕ → List ℕ) (hash : IsHash X) (N : List ℕ → ℕ) (a
           touches = λ q es bytes rows named input heights calm2. tt;
           whole = λ s stands calm2. add-whole r (row-kinds X p b.told r l k row);
           touched = λ blames. absurd (add-blames r (row-kinds X p b.told r l k row) blames);
+          unready = λ or_none e is. absurd (row-unready X p b.told r l k row is);
+          unplaced = λ p es names stood none. absurd none;
           leaves = record { good = good; head = stays-same r a.told b.told head; writes = written; idle = λ q es bytes stands calm same. absurd cc };
         }
 
@@ -154,5 +161,7 @@ module _ (X : List ℕ → List ℕ) (hash : IsHash X) (N : List ℕ → ℕ) (a
           touches = λ q es bytes rows named input heights calm2. no-touch (Some 0) t0;
           whole = λ s stands calm2. add-whole r (row-kinds X p None r l k row);
           touched = λ blames. absurd (add-blames r (row-kinds X p None r l k row) blames);
+          unready = λ or_none e is. absurd (row-unready X p None r l k row is);
+          unplaced = λ p es names stood none. absurd none;
           leaves = record { good = KeepsGood-same X a.told m.told told; head = stays-same r a.told m.told (ap head_in told); writes = told; idle = λ q es bytes stands calm same. told };
         }

@@ -321,6 +321,8 @@ module _ (X : List ℕ → List ℕ) (N : List ℕ → ℕ) (absent : Bool) (pat
         touches = λ p es bytes rows named input heights calm. tt;
         whole = λ s stands calm. (let o = opens s stands calm.faults in whole s (not-opened X N s (prove_reply X N absent path.names) f why m.told is o (stands-same X N a.told m.told s told stands)) o);
         touched = (opening-touched Mfs f why t0 t1 is up).risen;
+        unready = λ or_none e is. record { told = told; left = refl; reads = refl };
+        unplaced = λ p es names stood none. absurd none;
         leaves = record { good = KeepsGood-same X a.told m.told told; head = ap head_in told; writes = told; idle = λ p es bytes stands calm same. absurd cc };
       }
 
@@ -410,6 +412,8 @@ module _ (X : List ℕ → List ℕ) (N : List ℕ → ℕ) (absent : Bool) (pat
       whole = λ s needs stands quiet. finds s stands quiet.faults;
       touches = λ p es input rows named given heights quiet. tt;
       touched = λ blames. (let k = up.kept in let more = proof-touched path.names X (IsBadLight X N m.told found.root.cid) m b w w2 t1 t2 r done ends own touched blames in omega (arith, k, more));
+      unready = λ or_none e is. record { told = same; left = refl; reads = refl };
+      unplaced = λ p es names stood none. absurd none;
       leaves = record { good = KeepsGood-same X a.told b.told same; head = if-err done _ (ap head_in same); writes = same-writes; idle = λ p es input stands calm same. absurd cc };
     }
       where

@@ -26,7 +26,7 @@ use Rattle.uf_tree.specs.Standing.{Standing}
 use Rattle.uf_tree.specs.Tree.{Dir, Entries}
 use Rattle.uf_tree.specs.declared.profile.Profile.{Profile}
 use Rattle.uf_command.specs.Natures.{ask_writes}
-use Rattle.uf_command.specs.Kinds.{fault_behind, refusal_fault}
+use Rattle.uf_command.specs.Kinds.{fault_behind, opened_kinds, refusal_fault}
 use Rattle.uf_top.specs.Reply.{tree_reply}
 use Rattle.uf_command.specs.declared.types.Ask.{Ask}
 use Rattle.uf_command.specs.declared.types.Ask.TheVariants.{Ls, Stat, Edit as Edits}
@@ -44,6 +44,7 @@ use Rattle.uf_top.proofs.Finding.{at-whole, init-looks}
 use Rattle.uf_top.proofs.Losing.{inits-over, named-from, names-kept, names-same, not-inited, opening-over, over-more}
 use Rattle.uf_top.proofs.Shows.{Shown-opening, bad-of-head, bad-of-none, counts-still, opening-touched}
 use Rattle.uf_top.proofs.Standings.{stands-kept, stands-same}
+use Rattle.uf_top.proofs.Unready.{not-unready}
 
 -- where nothing was written, a refused ask has written what it may
 ask-same : (X : List ℕ → List ℕ) (ask : Ask) (a b : Told) → b ≡ a → WritesAs X (ask_writes ask) false a b
@@ -80,6 +81,8 @@ module _ (X : List ℕ → List ℕ) (N : List ℕ → ℕ) where
       whole = λ s stands calm. at-whole X N s ask path.names (Err why) m.told
           (not-opened X N s (tree_reply X N ask path.names) f why m.told is (opens s stands calm.faults) (stands-same X N a.told m.told s told stands));
       touched = (opening-touched Mfs f why t0 t1 is up).risen;
+      unready = λ or_none e is. record { told = told; left = refl; reads = refl };
+      unplaced = λ p es names stood none. absurd none;
       leaves = record { good = KeepsGood-same X a.told m.told told; head = ap head_in told; writes = ask-same X ask a.told m.told told; idle = λ p es bytes stands calm same. told };
     }
 
@@ -119,6 +122,8 @@ module _ (X : List ℕ → List ℕ) (N : List ℕ → ℕ) where
               (opens s stands (stood-front a.faults m.faults b.faults calm.faults rises.faults calm2.faults)) (stands-same X N a.told m.told s told stands)
               (λ p es at now. works.answers p es at now (record { faults = stood-back a.faults m.faults b.faults calm.faults calm2.faults; clashes = stood-back a.clashes m.clashes b.clashes calm.clashes calm2.clashes })));
           touched = (counts-then up works.touched).risen;
+          unready = λ or_none e is. absurd (not-unready opened_kinds r refl refl works.kinds is);
+          unplaced = λ p es names stood none. absurd none;
           leaves = record {
             good = subst (λ t. KeepsGood X t b.told) told works.good;
             head = subst (λ t. HeadStays r false t b.told) told works.head;
@@ -158,6 +163,8 @@ module _ (X : List ℕ → List ℕ) (N : List ℕ → ℕ) where
           touches = λ q es bytes rows named input heights calm. tt;
           whole = λ s stands calm. init-looks (Err why) kinds;
           touched = (opening-touched Mfs f why t0 t1 is up).risen;
+          unready = λ or_none e is. absurd cc;
+          unplaced = λ p es names stood none. absurd none;
           leaves = record { good = good; head = head; writes = leaves; idle = λ q es bytes stands calm same. absurd cc };
         }
 
@@ -178,5 +185,7 @@ module _ (X : List ℕ → List ℕ) (N : List ℕ → ℕ) where
       touches = λ q es bytes rows named input heights calm2. tt;
       whole = λ s stands calm2. init-looks (Ok text) tt;
       touched = λ blames. absurd blames;
+      unready = λ or_none e is. absurd cc;
+      unplaced = λ p es names stood none. absurd none;
       leaves = record { good = good; head = stays-nothing text a.told b.told nothing; writes = (no-head-yet a.told finds, (mfs.profile, mfs.root.cid, writes)); idle = λ q es bytes stands calm same. absurd cc };
     }

@@ -471,6 +471,8 @@ module _ (X : List ℕ → List ℕ) (N : List ℕ → ℕ) (ask : PinAsk) (a b 
         whole = λ s needs stands calm. absurd cc;
         touches = λ p es bytes rows named input heights calm. touch p es bytes rows;
         touched = λ blames. absurd (is.blameless blames);
+        unready = λ or_none e is. absurd cc;
+        unplaced = λ p es names stood none. absurd none;
         leaves = record { good = good; head = head; writes = subst (λ d. WritesAs X (pin_writes ask) d a.told b.told) (sym quiet.undone) writes; idle = λ p es bytes stands calm is. absurd cc };
       }
     where
@@ -529,6 +531,8 @@ module _ (X : List ℕ → List ℕ) (N : List ℕ → ℕ) (ask : PinAsk) (a b 
     whole = λ s needs stands quiet. absurd cc;
     touches = λ p es bytes rows named input heights quiet. touch p es bytes rows;
     touched = λ blames. absurd blames;
+    unready = λ or_none e is. absurd cc;
+    unplaced = λ p es names stood none. absurd none;
     leaves = record { good = good; head = tt; writes = writes; idle = λ p es bytes stands quiet is. absurd cc };
   }
     where
@@ -612,6 +616,8 @@ module _ (X : List ℕ → List ℕ) (N : List ℕ → ℕ) (a b : Seen) (l : st
         whole = λ s needs stands quiet. absurd cc;
         touches = λ p es bytes rows named input heights quiet. omega arith;
         touched = λ blames. absurd blames;
+        unready = λ or_none e is. absurd cc;
+        unplaced = λ p es names stood none. absurd none;
         leaves = record { good = KeepsGood-same X a.told b.told same; head = ap head_in same; writes = same; idle = λ p es bytes stands quiet is. absurd cc };
       }
 

@@ -1,6 +1,6 @@
 -- How what is added is put into the tree that the Head names, from its opening to its commit.
 use Rattle.std.proofs.Common.{◌≡◌, ◌≢◌, ◌⊎◌, ℕ, ◌≤◌, ◌<◌, List, [], ◌∷◌, ◌++◌, length, arith, Bool, true, false, refl, sym, ap, subst, ◌∙◌, inl, inr, Option, Some, None, Result, Ok, Err}
-use Rattle.std.specs.Prelude.{IfErr, IfOk, IfSome, OnErr, if◌then◌else◌, nat_le, ⊤}
+use Rattle.std.specs.Prelude.{IfErr, IfOk, IfSome, IsErr, OnErr, if◌then◌else◌, nat_le, ⊤}
 use Rattle.std.specs.List.{AllByRecursion}
 use Rattle.uf_cid.specs.Blocks.{Held}
 use Rattle.uf_edge.specs.Counts.{Counts, Stood}
@@ -59,7 +59,7 @@ use Rattle.uf_command.specs.declared.types.HostRule.TheVariants as rules
 use Rattle.uf_command.specs.declared.types.Refusal.{Refusal}
 use Rattle.uf_command.specs.declared.types.Refusal.TheVariants as refusal
 use Rattle.uf_top.specs.Answering.{Answers}
-use Rattle.uf_top.specs.Around.{HostSide, OnlyReadsHost, SinkSide, around}
+use Rattle.uf_top.specs.Around.{HostSide, LeavesAlone, OnlyReadsHost, SinkSide, around}
 use Rattle.uf_top.specs.Causes.{AddsBy, AreLeft, HeadStays, IsBadIn, IsReady, IsReadyBy, IsReason, IsReasonInTree, IsRow, is_read}
 use Rattle.uf_top.specs.Endings.{FindsAll}
 use Rattle.uf_top.specs.Grafts.{FollowsOr, IsLostBy}
@@ -78,6 +78,7 @@ use Rattle.uf_top.proofs.Losing.{named-of, names-kept, names-of, names-same}
 use Rattle.uf_top.proofs.Putting.{ok-value}
 use Rattle.uf_top.proofs.Shows.{bad-of-head, bad-of-none, counts-still, not-rose, saving-wants}
 use Rattle.uf_top.proofs.Standings.{stands-kept, tells-none, tree-good}
+use Rattle.uf_top.proofs.Unready.{not-unready, ungiven-unready}
 
 -- ---- refusals by their kinds
 
@@ -274,6 +275,22 @@ lost-behind told k l refusal.Read lost = absurd lost
 lost-behind told k l refusal.Write lost = absurd lost
 lost-behind told k l (refusal.Store f) lost = loss-back told k l f lost
 
+-- ---- what the Head or the destination refuses
+
+module _ (X : List ℕ → List ℕ) (N : List ℕ → ℕ) (dest : Path) (path : Option (List ℕ)) (done : Result (List ℕ) Refusal) (a d : Seen) where
+  -- the Head was read, and the tree that it names has a spot
+  pub record HasBegun : Type 0 where
+    pub ready : ended done ≢ status.NotReady
+    pub spot : (p : Profile) (es : Entries) → NamesOver X N a.told p es → Stood a.faults d.faults → IsErr (added_spot dest path es) → ⊥
+
+  by-head : (Alone : Type 0) → Alone ⊎ HasBegun → ended done ≡ status.NotReady → Alone
+  by-head Alone (inl alone) is = alone
+  by-head Alone (inr begun) is = absurd (begun.ready is)
+
+  by-spot : (Alone : Type 0) → Alone ⊎ HasBegun → (p : Profile) (es : Entries) → NamesOver X N a.told p es → Stood a.faults d.faults → IsErr (added_spot dest path es) → Alone
+  by-spot Alone (inl alone) p es names stood nowhere = alone
+  by-spot Alone (inr begun) p es names stood nowhere = absurd (begun.spot p es names stood nowhere)
+
 -- ---- how a command ends that puts something into the tree
 
 module _ (X : List ℕ → List ℕ) (N : List ℕ → ℕ) (dest : Path) (path : Option (List ℕ)) (Says : Profile → Result Tree Refusal → Type 0) (say : Profile → Tree → List ℕ) where
@@ -397,6 +414,9 @@ module _ (X : List ℕ → List ℕ) (N : List ℕ → ℕ) (dest : Path) (path 
       at-spot : (p : Profile) (es : Entries) → NamesOver X N a.told p es → Stood a.faults m.faults → (spot : Spot) × (added_spot dest path es ≡ Ok spot) × IsFoundAt X N a.told p es spot found
       at-spot p es names stood = ok-value (λ spot. IsFoundAt X N a.told p es spot found) (added_spot dest path es) (f.lost p es names stood)
 
+      spotted-there : (p : Profile) (es : Entries) → NamesOver X N a.told p es → Stood a.faults m.faults → IsErr (added_spot dest path es) → ⊥
+      spotted-there p es names stood nowhere = (let at = at-spot p es names stood in let e : false ≡ true = subst (λ (s : Result Spot Refusal). IsErr s) at.1 nowhere in cc)
+
       -- nothing is written by then
       first : OnlySaves X NoneIsBad None a m
       first = reads-saves (record { cause = f.reads.cause; told = f.reads.told })
@@ -443,6 +463,12 @@ module _ (X : List ℕ → List ℕ) (N : List ℕ → ℕ) (dest : Path) (path 
                 (inr (placed-at p es (added_spot dest path es) at.0 (Err why) at.1)) (names-kept X N a.told b.told p es both.good (saves-head X a.told b.told both.saves) named);
           }
 
+      pub begun-ungiven : (b : Seen) (why : Refusal) → IsUngiven (Says q) why → OnlySaves X NoneIsBad (fault_behind why) m b → HasBegun X N dest path (Err why) a b
+      begun-ungiven b why ungiven saves = record {
+        ready = λ is. ungiven-unready (Says q) why ungiven is;
+        spot = λ p es names stood. spotted-there p es names (stood-front a.faults m.faults b.faults first.cause.faults (shown-rises X NoneIsBad (fault_behind why) m b saves.cause).faults stood);
+      }
+
       -- ---- it is put
 
       module _ (b d : Seen) (t2 : ℕ) (low : t0 ≤ t1) (given : Given) (gives : IsGiven X N q b.told (Says q) (say q) given) (saves : OnlySaves X NoneIsBad None m b)
@@ -455,6 +481,14 @@ module _ (X : List ℕ → List ℕ) (N : List ℕ → ℕ) (dest : Path) (path 
 
         front-m : Calm a d → Stood a.faults m.faults
         front-m calm = stood-front a.faults m.faults b.faults first.cause.faults (shown-rises X NoneIsBad None m b saves.cause).faults (front-b calm)
+
+        pub begun-put : HasBegun X N dest path done a d
+        begun-put = record {
+          ready = λ is. not-unready opened_kinds done refl refl put.kinds is;
+          spot = λ p es names stood.
+              let later = stood-front a.faults b.faults d.faults start.cause.faults (shown-rises X (IsBadInTree X N (Some q) found.tree.root.cid) (refusal_fault done) b d put.cause).faults stood in
+              spotted-there p es names (stood-front a.faults m.faults b.faults first.cause.faults (shown-rises X NoneIsBad None m b saves.cause).faults later);
+        }
 
         -- what is given, by the profile of the tree that the Head names
         given-by : (p : Profile) → q ≡ p → IsGiven X N p b.told (Says p) (say p) given
@@ -664,9 +698,9 @@ module _ (X : List ℕ → List ℕ) (N : List ℕ → ℕ) where
   }
 
   pub of-input : (dest : Path) (l m : streams.Told) (i j : ℕ) (held : streams.Told) (w : ℕ) (side : HostSide) (er er2 : SinkSide) (done : Result (List ℕ) Refusal) (a d : Seen) (t0 t2 : ℕ)
-      → Ended X N dest None (λ p. SaysInput p l) (input_row X N) done a d t0 t2 → Counts (is_read done) i j
+      → Ended X N dest None (λ p. SaysInput p l) (input_row X N) done a d t0 t2 → Counts (is_read done) i j → LeavesAlone (around a l i held w t0 side er) (around d m j held w t2 side er2) ⊎ HasBegun X N dest None done a d
       → Makes X N (Add (adding.InputTo dest)) done (around a l i held w t0 side er) (around d m j held w t2 side er2)
-  of-input dest l m i j held w side er er2 done a d t0 t2 e counts = record {
+  of-input dest l m i j held w side er er2 done a d t0 t2 e counts how = record {
     answers = λ world stands input calm.
         answers-of X N dest None (λ p. SaysInput p l) (input_row X N) done a d t0 t2 (λ p. input_tree p world.input) e calm (not-read (is_read done) i j counts (input.0 refl).1)
         (λ p g said. input-said p l world.input g (input.0 refl).0 said) world.standing stands;
@@ -683,13 +717,16 @@ module _ (X : List ℕ → List ℕ) (N : List ℕ → ℕ) where
     whole = e.whole;
     touches = λ p es bytes rows named input heights calm. tt;
     touched = e.touched;
+    unready = λ or_none e is. by-head X N dest None done a d (LeavesAlone (around a l i held w t0 side er) (around d m j held w t2 side er2)) how is;
+    unplaced = λ p es names stood none. by-spot X N dest None done a d (LeavesAlone (around a l i held w t0 side er) (around d m j held w t2 side er2)) how p es names stood none;
     leaves = record { good = e.good; head = head-after done a.told d.told e.head; writes = e.writes; idle = λ p es bytes names calm same. absurd cc };
   }
 
   pub of-host : (recursive : Bool) (path : List ℕ) (dest : Path) (l : streams.Told) (i : ℕ) (held : streams.Told) (w : ℕ) (side side2 : HostSide) (er er2 : SinkSide) (done : Result (List ℕ) Refusal) (a d : Seen) (t0 t2 : ℕ)
       → Ended X N dest (Some path) (λ p. SaysHost X N p side.told recursive path) (λ p. host_text X N p path) done a d t0 t2 → OnlyReadsHost (is_read done) side side2
+      → LeavesAlone (around a l i held w t0 side er) (around d l i held w t2 side2 er2) ⊎ HasBegun X N dest (Some path) done a d
       → Makes X N (Add (adding.HostTo recursive path dest)) done (around a l i held w t0 side er) (around d l i held w t2 side2 er2)
-  of-host recursive path dest l i held w side side2 er er2 done a d t0 t2 e only = record {
+  of-host recursive path dest l i held w side side2 er er2 done a d t0 t2 e only how = record {
     answers = λ world stands input calm.
         answers-of X N dest (Some path) (λ p. SaysHost X N p side.told recursive path) (λ p. host_text X N p path) done a d t0 t2 (λ p. host_tree path (tree_on_host X N p world.host recursive path)) e calm
         (not-read (is_read done) side.reads side2.reads only.reads (input.1 refl).1)
@@ -708,6 +745,8 @@ module _ (X : List ℕ → List ℕ) (N : List ℕ → ℕ) where
     whole = e.whole;
     touches = λ p es bytes rows named input heights calm. tt;
     touched = e.touched;
+    unready = λ or_none e is. by-head X N dest (Some path) done a d (LeavesAlone (around a l i held w t0 side er) (around d l i held w t2 side2 er2)) how is;
+    unplaced = λ p es names stood none. by-spot X N dest (Some path) done a d (LeavesAlone (around a l i held w t0 side er) (around d l i held w t2 side2 er2)) how p es names stood none;
     leaves = record { good = e.good; head = head-after done a.told d.told e.head; writes = e.writes; idle = λ p es bytes names calm same. absurd cc };
   }
 

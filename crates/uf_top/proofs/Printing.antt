@@ -474,6 +474,8 @@ module _ (X : List ℕ → List ℕ) (N : List ℕ → ℕ) where
           whole = λ s needs stands calm. mk.whole s stands calm;
           touches = λ p es bytes rows named input heights calm. mk.touches p es bytes rows named input heights calm;
           touched = mk.touched;
+          unready = λ or_none e is. mk.unready or_none e is;
+          unplaced = λ p es names stood none. mk.unplaced p es names stood none;
           leaves = record {
             good = mk.leaves.good;
             head = keeps-head (Err why) (natures.prints_after command) a.told b.told mk.leaves.head;
@@ -549,6 +551,8 @@ module _ (X : List ℕ → List ℕ) (N : List ℕ → ℕ) where
           whole = λ s needs stands calm. mk.whole s stands calm;
           touches = λ p es bytes rows named input heights calm. mk.touches p es bytes rows named input heights calm;
           touched = mk.touched;
+          unready = λ or_none e is. absurd cc;
+          unplaced = λ p es names stood none. (let x = mk.unplaced p es names stood none in record { told = x.told; left = x.left; reads = x.reads });
           leaves = record { good = mk.leaves.good; head = keeps-head (Ok tt) (natures.prints_after command) a.told b.told tt; writes = mk.leaves.writes; idle = mk.leaves.idle };
         }
           where
@@ -599,6 +603,8 @@ module _ (X : List ℕ → List ℕ) (N : List ℕ → ℕ) where
               whole = λ s needs stands calm. (λ e. cc, λ e. cc);
               touches = λ p es bytes rows named input heights calm. mk.touches p es bytes rows named input heights calm;
               touched = λ blames. absurd blames;
+              unready = λ or_none e is. absurd cc;
+              unplaced = λ p es names stood none. (let x = mk.unplaced p es names stood none in record { told = x.told; left = x.left; reads = x.reads });
               leaves = record { good = mk.leaves.good; head = some-stays text (natures.prints_after command) a.told b.told c.some mk.leaves.head; writes = mk.leaves.writes; idle = mk.leaves.idle };
             }
 

@@ -14,7 +14,7 @@ use Rattle.uf_top.specs.Running.{Runs, RunsCommand}
 use Rattle.uf_top.specs.Working.{Does, Serves}
 use Rattle.uf_top.proofs.Counted.{counted-of}
 use Rattle.uf_top.proofs.Losses.{lost-told, touches-told}
-use Rattle.uf_top.proofs.Telling.{blamed-told, clashes-told, faults-told, gets-told, good-told, head-told, host-told, idle-told, is-refused, kinds-told, pins-told, prefix-told, prints-told, read-told, replies-told, says-plain, shows, synced-told, told-same, unprinted-over-told, unprinted-told, whole-told, write-told, writes-told}
+use Rattle.uf_top.proofs.Telling.{blamed-told, clashes-told, faults-told, gets-told, good-told, head-told, host-told, idle-told, is-refused, kinds-told, pins-told, prefix-told, prints-told, read-told, replies-told, says-plain, shows, synced-told, told-same, unplaced-told, unprinted-over-told, unprinted-told, unready-told, whole-told, write-told, writes-told}
 
 module _ (given : Status) (X : List ℕ → List ℕ) (N : List ℕ → ℕ) (a b : Around) where
   command-told : (command : Command) (done : Result (Unit {0}) Refusal) → Does X N command done a b → IfErr done (ByOwnStore X (own_store command) a.left a.store b.store) → IsOf (may_end command) done → TellsEnd (Said a.errors b.errors) done given
@@ -49,6 +49,8 @@ module _ (given : Status) (X : List ℕ → List ℕ) (N : List ℕ → ℕ) (a 
       head = λ unmoved. head-told a b given X N command done s t unmoved;
       told = λ is. told-same a b given X N command done s is;
       idle = λ p es bytes names input faults is. idle-told a b given X N command done s p es bytes names input faults is;
+      unready = λ or_none needs is. unready-told a b given X N command done s t or_none needs is;
+      unplaced = λ p es names stood none. unplaced-told a b given X N command done s p es names stood none;
       host = λ is. host-told a b given X N command done s is;
       gets = gets-told a b given X N command done s t;
       pins = pins-told a b given X N command done s t;

@@ -23,7 +23,7 @@ use Rattle.uf_command.specs.Commands.{HasInput, is_idle}
 use Rattle.uf_command.specs.Natures.{command_writes, needs_standing, only_reads, own_store, reads_tree_alone, uses_host, writes_host, OwnStore, NoStore, OfCarSections, OfTree, prints_after}
 use Rattle.uf_command.specs.Natures.{streams as flows}
 use Rattle.uf_command.specs.Kinds.{IsOf, OfCar, OfClash, OfHost, OfLongInput, OfMissing, OfPath, OfPins, OfReady, OfRule, OfUsage, fault_behind, may_close, refusal_kind}
-use Rattle.uf_command.specs.Natures.{kinds_of, may_end, may_give}
+use Rattle.uf_command.specs.Natures.{AHead, kinds_of, may_end, may_give, nature}
 use Rattle.uf_command.specs.Lines.{line_of, said}
 use Rattle.uf_top.specs.Reply.{Outside, World, in_world, outside_of, reply}
 use Rattle.uf_command.specs.Statuses.{ended, no_memory, plain_line, status_of}
@@ -38,7 +38,7 @@ use Rattle.uf_command.specs.declared.types.PinAsk.TheVariants as pins
 use Rattle.uf_command.specs.declared.types.Refusal.{Refusal}
 use Rattle.uf_command.specs.declared.types.Refusal.TheVariants as refusal
 use Rattle.uf_top.specs.Answering.{DoesAnswer, LeavesNext}
-use Rattle.uf_top.specs.Around.{AllWritten, Around, CountsCanRise, HasOutside, HostSide, MetNone, RisesFor, RoseAt, Said, TakesHost}
+use Rattle.uf_top.specs.Around.{AllWritten, Around, CountsCanRise, HasOutside, HostSide, LeavesAlone, MetNone, RisesFor, RoseAt, Said, TakesHost}
 use Rattle.uf_top.specs.Cars.{ByOwnStore, IsClashing, IsMissing, IsOwnClash, LacksSection}
 use Rattle.uf_top.specs.Caused.{StatusShows}
 use Rattle.uf_top.specs.Causes.{IsBadIn, IsSynced, is_read, is_write, KeepsHead}
@@ -47,6 +47,7 @@ use Rattle.uf_command.specs.Telling.{TellsEnd, TellsWhy, has_details}
 use Rattle.uf_top.specs.Getting.{GetsFor, LeavesAt}
 use Rattle.uf_top.specs.Naming.{FindsOver, FindsWorld, StandsIf, StandsNamed, StaysNamed}
 use Rattle.uf_top.specs.Pins.{PinsAfter, PinsFor, PinsLeft}
+use Rattle.uf_top.specs.Placing.{HasNoSpot}
 use Rattle.uf_top.specs.Shapes.{SyncsAfter, WritesAs, is_done}
 use Rattle.uf_top.specs.Working.{Does}
 use Rattle.uf_top.proofs.Pins.{pins-after}
@@ -763,6 +764,15 @@ module _ (a b : Around) where
       pub idle-told : (command : Command) (done : Result (Unit {0}) Refusal) → Does X N command done a b → (p : Profile) (es : Entries) (bytes : List ℕ) → NamesOver X N a.store.told p es → HasInput (Ok command) a.left bytes a.reads b.reads → Stood a.store.faults b.store.faults
           → is_idle bytes es command ≡ true → b.store.told ≡ a.store.told
       idle-told command done s p es bytes stands input faults is = s.leaves.idle p es bytes stands (input, faults) is
+
+      pub unready-told : (command : Command) (done : Result (Unit {0}) Refusal) → Does X N command done a b → TellsEnd Says done given
+          → (or_none : Bool) → (nature command).head ≡ AHead or_none → given ≡ status.NotReady → LeavesAlone a b
+      unready-told command (Ok done) s t or_none needs is = absurd (let e : status.Ok ≡ status.NotReady = sym t.0 ∙ is in cc)
+      unready-told command (Err why) s (inl t) or_none needs is = s.unready or_none needs (sym t.0 ∙ is)
+      unready-told command (Err why) s (inr t) or_none needs is = absurd (let e : status.Memory ≡ status.NotReady = sym t.1 ∙ is in cc)
+
+      pub unplaced-told : (command : Command) (done : Result (Unit {0}) Refusal) → Does X N command done a b → (p : Profile) (es : Entries) → NamesOver X N a.store.told p es → Stood a.store.faults b.store.faults → HasNoSpot command es → LeavesAlone a b
+      unplaced-told command done s p es names stood none = s.unplaced p es names stood none
 
       -- ---- over a store that stands
 

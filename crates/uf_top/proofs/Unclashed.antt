@@ -46,6 +46,8 @@ module _ (X : List ℕ → List ℕ) (N : List ℕ → ℕ) (command : Command) 
     whole = λ s needs stands calm. (λ e. cc, λ e. cc);
     touches = h.touches;
     touched = λ blames. absurd blames;
+    unready = λ or_none e is. absurd cc;
+    unplaced = h.unplaced;
     leaves = record { good = h.leaves.good; head = memory-head cid first second (prints_after command) a.store.told b.store.told h.leaves.head; writes = h.leaves.writes; idle = h.leaves.idle };
   }
 

@@ -26,7 +26,7 @@ use Rattle.uf_tree.specs.Tree.{Dir, Entries}
 use Rattle.uf_tree.specs.TreePlan.{blocks}
 use Rattle.uf_tree.specs.declared.profile.Profile.{Profile}
 use Rattle.uf_command.specs.Commands.{HasInput, has_nothing_to_do}
-use Rattle.uf_command.specs.Kinds.{IsOf, write_input_kinds, tree_kinds, fault_behind, fault_kind, may_meet, refusal_kind}
+use Rattle.uf_command.specs.Kinds.{IsOf, write_input_kinds, tree_kinds, fault_behind, fault_kind, may_meet, opened_kinds, refusal_kind}
 use Rattle.uf_top.specs.Reply.{Reply, in_tree, input_reply, most_input, tree_reply, unchanged}
 use Rattle.uf_command.specs.declared.types.Ask.TheVariants.{Edit as Edits}
 use Rattle.uf_command.specs.declared.types.Command.TheVariants.{WriteInput, At}
@@ -47,6 +47,7 @@ use Rattle.uf_top.proofs.InTree.{not-opened, opened, opening-ready}
 use Rattle.uf_top.proofs.Losing.{lost-wants, names-same, opening-over}
 use Rattle.uf_top.proofs.Shows.{Shown-opening, bad-of-none, opening-touched, shown-any, wants-shown}
 use Rattle.uf_top.proofs.Standings.{stands-same, tells-none}
+use Rattle.uf_top.proofs.Unready.{not-unready, taken-unready}
 
 -- what a command at a path may refuse, one that takes the input may refuse
 tree-taken : (r : Result (List ℕ) Refusal) → IsOf (may_meet tree_kinds) r → IsOf (may_meet write_input_kinds) r
@@ -138,9 +139,9 @@ module _ (how : WriteHow) (path : Path) where
       same-reply : (s : Standing) (bytes : List ℕ) → HasInput (Ok (WriteInput how path)) l bytes i j → in_tree (input_reply X N how path.names bytes) s ≡ in_tree (tree_reply X N (Edits (Write how piece)) path.names) s
       same-reply s bytes input = ap (λ (bs : List ℕ). in_tree (input_reply X N how path.names bs) s) (given-is bytes input) ∙ piece-reply s
 
-      pub input-written : (r : Result (List ℕ) Refusal) (a b : Seen) (h : streams.Told) (w t0 t1 : ℕ) (side : HostSide) (er er2 : SinkSide) → Makes X N (At (Edits (Write how piece)) path) r (around a l i h w t0 side er) (around b l i h w t1 side er2)
+      pub input-written : (r : Result (List ℕ) Refusal) (a b : Seen) (h : streams.Told) (w t0 t1 : ℕ) (side : HostSide) (er er2 : SinkSide) → Makes X N (At (Edits (Write how piece)) path) r (around a l i h w t0 side er) (around b l i h w t1 side er2) → IsOf opened_kinds r
           → Makes X N (WriteInput how path) r (around a l i h w t0 side er) (around b k j h w t1 side er2)
-      input-written r a b h w t0 t1 side er er2 mk = record {
+      input-written r a b h w t0 t1 side er er2 mk opened_as = record {
         answers = λ world stands input calm. let s = world.standing in let bytes = world.input in subst (λ given. Answers X N s given r b.told) (sym (same-reply s bytes input.0)) (mk.answers world stands ((λ e. absurd cc), input.1, input.2) calm);
         lost = λ p es heights held outside named input calm. let bytes = outside.input in subst (λ given. AnswersOver X N a.told b.told p es (command_needs X N (λ n. 0) (WriteInput how path) p es) given r) (sym (same-reply (Stands p es) bytes input.0)) (mk.lost p es heights held outside named ((λ e. absurd cc), input.1, input.2) calm);
         kinds = tree-taken r mk.kinds;
@@ -153,6 +154,8 @@ module _ (how : WriteHow) (path : Path) where
         whole = mk.whole;
         touches = λ p es bytes rows named input heights calm. subst (λ (bs : List ℕ). IfSome (command_touches X N rows bs (WriteInput how path) p es) (λ most. t1 ≤ t0 + most)) (sym (given-is bytes input)) (mk.touches p es [] rows named (λ e. absurd cc) heights calm);
         touched = mk.touched;
+        unready = λ or_none e is. absurd (not-unready opened_kinds r refl refl opened_as is);
+        unplaced = λ p es names stood none. absurd none;
         leaves = record {
           good = mk.leaves.good;
           head = mk.leaves.head;
@@ -317,6 +320,8 @@ module _ (how : WriteHow) (path : Path) where
         whole = λ s stands calm2. taken-finds why takes;
         touches = λ p es bytes rows named input heights calm2. omega (arith, opens_by);
         touched = λ blames. absurd (taken-blames why takes blames);
+        unready = λ or_none e is. absurd (taken-unready why l k takes is);
+        unplaced = λ p es names stood none. absurd none;
         leaves = record { good = KeepsGood-same X a.told m.told told; head = ap head_in told; writes = record { between = a.told; saves = SavesOnly-refl X a.told; last = Same told }; idle = λ p es bytes stands given same. told };
       }
 
@@ -340,5 +345,7 @@ module _ (how : WriteHow) (path : Path) where
             (not-opened X N s (tree_reply X N (Edits (Write how [])) path.names) f why m.told is (opens s stands calm.faults) (stands-same X N a.told m.told s told stands));
         touches = λ p es bytes rows named input heights calm. omega (arith, opens_by);
         touched = (opening-touched Mfs f why t0 t1 is up).risen;
+        unready = λ or_none e is. record { told = told; left = refl; reads = refl };
+        unplaced = λ p es names stood none. absurd none;
         leaves = record { good = KeepsGood-same X a.told m.told told; head = ap head_in told; writes = record { between = a.told; saves = SavesOnly-refl X a.told; last = Same told }; idle = λ p es bytes stands given same. told };
       }

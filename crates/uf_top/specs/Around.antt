@@ -65,6 +65,12 @@ around store left reads held writes touches host errors = record {
 abbrev pub SameButErrors : Around → Around → Type 0
 SameButErrors before now = now ≡ record before { errors = now.errors }
 
+-- what the store tells is as before, and so is the input
+pub record LeavesAlone (before now : Around) : Type 0 where
+  pub told : now.store.told ≡ before.store.told
+  pub left : now.left ≡ before.left
+  pub reads : now.reads ≡ before.reads
+
 -- what is outside of the tree is so, where the command asks for it
 abbrev pub HasOutside : Result Command Refusal → Outside → Around → Around → Type 0
 HasOutside asked outside before now = HasInput asked before.left outside.input before.reads now.reads

@@ -1,5 +1,5 @@
 -- What is put into the tree that the Head names: the input as a file, or what the host has at a path.
-use Rattle.std.specs.Prelude.{◌≡◌, ◌⊎◌, ℕ, ◌<◌, List, [], ◌∷◌, ◌++◌, Bool, false, IfOk, IfErr, IfSome, OnErr, ⊤}
+use Rattle.std.specs.Prelude.{◌≡◌, ◌⊎◌, ℕ, ◌<◌, List, [], ◌∷◌, ◌++◌, Bool, false, IfOk, IfErr, IfSome, IsErr, OnErr, ⊤}
 use Rattle.std.specs.List.{flat_map}
 use Rattle.std.specs.declared.option.Option.{Option}
 use Rattle.std.specs.declared.option.Option.TheVariants.{None, Some}
@@ -34,6 +34,9 @@ use Rattle.uf_tree.specs.TreePlan.{blocks, entry}
 use Rattle.uf_tree.specs.declared.nodes.Entry.{Entry}
 use Rattle.uf_tree.specs.declared.profile.Profile.{Profile}
 use Rattle.uf_command.specs.Natures.{MovesHead}
+use Rattle.uf_command.specs.declared.types.Adding.TheVariants as adding
+use Rattle.uf_command.specs.declared.types.Command.{Command}
+use Rattle.uf_command.specs.declared.types.Command.TheVariants.{Add}
 use Rattle.uf_command.specs.Kinds.{IsOf, RefusalKind, place_host_kinds, place_kinds, may_meet, opened_kinds, refusal_fault}
 use Rattle.uf_command.specs.Statuses.{no_memory}
 use Rattle.uf_command.specs.declared.types.Refusal.{Refusal}
@@ -51,6 +54,12 @@ use Rattle.uf_top.specs.declared.given.OpenSpot.{OpenSpot}
 abbrev pub kinds_placing : Option (List ℕ) → List RefusalKind
 kinds_placing None = place_kinds
 kinds_placing (Some path) = place_host_kinds
+
+-- in the tree of these entries there is no spot where `add --to-files` may put what it adds, whatever that is
+abbrev pub HasNoSpot : Command → Entries → Type 0
+HasNoSpot (Add (adding.InputTo dest)) es = IsErr (added_spot dest None es)
+HasNoSpot (Add (adding.HostTo recursive path dest)) es = IsErr (added_spot dest (Some path) es)
+HasNoSpot command es = ⊥
 
 -- rows of which this is the last
 pub record EndsWith (rows : List AddedRow) (row : AddedRow) : Type 0 where

@@ -1,5 +1,5 @@
 -- What became of words: they were refused, or a command did what is said of it. `run`, and each line of a batch, is so.
-use Rattle.std.specs.Prelude.{◌≡◌, ◌⊎◌, ℕ, ◌+◌, ◌<◌, ◌≤◌, List, true, false, IfSome}
+use Rattle.std.specs.Prelude.{◌≡◌, ◌⊎◌, ℕ, ◌+◌, ◌<◌, ◌≤◌, List, Bool, true, false, IfSome}
 use Rattle.std.specs.declared.result.Result.{Result}
 use Rattle.std.specs.declared.result.Result.TheVariants.{Ok, Err}
 use Rattle.uf_cid.specs.Blocks.{Lookup}
@@ -7,8 +7,8 @@ use Rattle.uf_edge.specs.Counts.{Stood}
 use Rattle.uf_mfs.specs.Reading.{AreHeights}
 use Rattle.uf_mfs.specs.Standing.{NamesOver, TellsAs, head_in}
 use Rattle.uf_command.specs.Commands.{HasInput, IsOfWords, is_idle}
-use Rattle.uf_command.specs.Natures.{command_writes, may_give, only_reads, prints_after, reads_tree_alone}
-use Rattle.uf_command.specs.Natures.{streams as flows, writes_host}
+use Rattle.uf_command.specs.Natures.{AHead, command_writes, may_give, nature, only_reads, prints_after}
+use Rattle.uf_command.specs.Natures.{reads_tree_alone, streams as flows, writes_host}
 use Rattle.uf_command.specs.declared.status.Status.{Status}
 use Rattle.uf_command.specs.declared.status.Status.TheVariants as status
 use Rattle.uf_command.specs.declared.types.Command.{Command}
@@ -16,7 +16,7 @@ use Rattle.uf_command.specs.declared.types.Refusal.{Refusal}
 use Rattle.uf_store.specs.Calls.{Calm}
 use Rattle.uf_store.specs.Keeping.{KeepsGood}
 use Rattle.uf_top.specs.Answering.{LeavesNext}
-use Rattle.uf_top.specs.Around.{Around, CountsCanRise, HasOutside, NoneFalls, SameButErrors, StaysQuiet}
+use Rattle.uf_top.specs.Around.{Around, CountsCanRise, HasOutside, LeavesAlone, NoneFalls, SameButErrors, StaysQuiet}
 use Rattle.uf_top.specs.Bounds.{command_touches}
 use Rattle.uf_top.specs.Caused.{StatusShows}
 use Rattle.uf_top.specs.Endings.{EndsAs, FindsAll, IsRefusedBy, IsSyncedFor, IsTextOf, PrintsAt, PrintsPart, SaysPlain, may_move}
@@ -24,6 +24,7 @@ use Rattle.uf_top.specs.Getting.{GetsFor}
 use Rattle.uf_top.specs.Losing.{EndsOver, command_needs}
 use Rattle.uf_top.specs.Pins.{PinsAfter}
 use Rattle.uf_top.specs.Naming.{FindsOver, FindsWorld, StandsNamed, StaysNamed, TellsBlocks}
+use Rattle.uf_top.specs.Placing.{HasNoSpot}
 use Rattle.uf_top.specs.Reply.{Outside, World, in_world, outside_of, reply}
 use Rattle.uf_top.specs.Shapes.{WritesAs, is_done}
 use Rattle.uf_tree.specs.Standing.{Standing}
@@ -62,9 +63,10 @@ module _ (X : List ℕ → List ℕ) (N : List ℕ → ℕ) where
     pub synced : given ≡ status.Ok → IsSyncedFor command now.store.told
 
   -- what a command leaves. What is good stays, only a command that is done moves the Head, or an `add --to-files` of
-  -- which only the output failed, and some commands leave all as it was; so does an edit that has nothing to do. Of
-  -- the host `get` alone changes anything, also where it is refused or stopped. `pin add` and `pin rm` that are done
-  -- move the note of pins, and whatever else leaves it
+  -- which only the output failed, and some commands leave all as it was; so does an edit that has nothing to do. What
+  -- needs a Head and isn't ready has written nothing and read nothing of the input, and so it is where the tree that
+  -- the Head names has no spot for what `add --to-files` adds. Of the host `get` alone changes anything, also where it
+  -- is refused or stopped. `pin add` and `pin rm` that are done move the note of pins, and whatever else leaves it
   pub record LeavesRight (command : Command) (given : Status) (before now : Around) : Type 0 where
     pub writes : WritesAs X (command_writes command) (is_done given) before.store.told now.store.told
     pub good : KeepsGood X before.store.told now.store.told
@@ -74,6 +76,10 @@ module _ (X : List ℕ → List ℕ) (N : List ℕ → ℕ) where
         → HasInput (Ok command) before.left bytes before.reads now.reads
         → Stood before.store.faults now.store.faults → is_idle bytes es command ≡ true
         → now.store.told ≡ before.store.told
+    pub unready : (or_none : Bool) → (nature command).head ≡ AHead or_none → given ≡ status.NotReady
+        → LeavesAlone before now
+    pub unplaced : (p : Profile) (es : Entries) → NamesOver X N before.store.told p es
+        → Stood before.store.faults now.store.faults → HasNoSpot command es → LeavesAlone before now
     pub host : writes_host command ≡ false → now.host.told ≡ before.host.told
     pub gets : GetsFor command given before.store.told before.host.told now.host.told
     pub pins : PinsAfter (Ok command) given before.store.told now.store.told

@@ -1,5 +1,5 @@
 -- How a command was done, before anything of it is printed: what it answers, why, and what it leaves.
-use Rattle.std.specs.Prelude.{◌≡◌, ◌⊎◌, ℕ, ◌+◌, ◌<◌, ◌≤◌, List, [], false, true, IfErr, IfOk, IfSome}
+use Rattle.std.specs.Prelude.{◌≡◌, ◌⊎◌, ℕ, ◌+◌, ◌<◌, ◌≤◌, List, [], Bool, false, true, IfErr, IfOk, IfSome}
 use Rattle.uf_cid.specs.Blocks.{Lookup}
 use Rattle.std.specs.declared.result.Result.{Result}
 use Rattle.std.specs.declared.result.Result.TheVariants.{Ok, Err}
@@ -24,8 +24,9 @@ use Rattle.uf_command.specs.declared.types.Command.{Command}
 use Rattle.uf_command.specs.declared.types.Command.TheVariants.{At}
 use Rattle.uf_command.specs.declared.types.Refusal.{Refusal}
 use Rattle.uf_command.specs.Commands.{HasInput, is_idle, of_command}
-use Rattle.uf_command.specs.Natures.{ask_writes, command_writes, generates, kinds_of, prints_after, reads_input}
-use Rattle.uf_command.specs.Natures.{reads_tree_alone, streams as flows, touches_nothing, uses_host, writes_host}
+use Rattle.uf_command.specs.Natures.{AHead, ask_writes, command_writes, generates, kinds_of, nature, prints_after}
+use Rattle.uf_command.specs.Natures.{reads_input, reads_tree_alone, streams as flows, touches_nothing, uses_host}
+use Rattle.uf_command.specs.Natures.{writes_host}
 use Rattle.uf_command.specs.Telling.{Prints}
 use Rattle.uf_command.specs.Kinds.{IsOf, may_meet, may_close, opened_kinds, refusal_fault}
 use Rattle.uf_top.specs.Reply.{Outside, World, in_world, outside_of, reply, tree_reply}
@@ -33,7 +34,8 @@ use Rattle.uf_edits.specs.Edits.{IsBadAsked}
 use Rattle.uf_command.specs.Statuses.{ended, no_memory, status_of}
 use Rattle.uf_command.specs.declared.status.Status.TheVariants as status
 use Rattle.uf_top.specs.Answering.{Answers, DoesAnswer, LeavesNext}
-use Rattle.uf_top.specs.Around.{Around, CountsCanRise, HasOutside, RisesFor, SameButErrors, StaysQuiet, TakesHost, UsesHost}
+use Rattle.uf_top.specs.Around.{Around, CountsCanRise, HasOutside, LeavesAlone, RisesFor, SameButErrors, StaysQuiet}
+use Rattle.uf_top.specs.Around.{TakesHost, UsesHost}
 use Rattle.uf_top.specs.Around.{is_input_read, is_output_write}
 use Rattle.uf_top.specs.Bounds.{ask_touches, command_touches}
 use Rattle.uf_top.specs.Causes.{HeadStays, IsAskText, IsBadIn, IsReady, KeepsHead, is_read, is_write}
@@ -43,6 +45,7 @@ use Rattle.uf_top.specs.Hosted.{IsHostedText}
 use Rattle.uf_top.specs.Losing.{AnswersOver, DoesOver, ask_needs, command_needs}
 use Rattle.uf_top.specs.Pins.{PinsFor}
 use Rattle.uf_top.specs.Naming.{FindsOver, FindsWorld, StandsNamed, StaysNamed, TellsBlocks}
+use Rattle.uf_top.specs.Placing.{HasNoSpot}
 use Rattle.uf_top.specs.Shapes.{WritesAs, is_done, is_ok}
 
 module _ (X : List ℕ → List ℕ) (N : List ℕ → ℕ) where
@@ -58,7 +61,7 @@ module _ (X : List ℕ → List ℕ) (N : List ℕ → ℕ) where
 
   -- how the text of a command was made: its answer is the reply, over lost blocks too, and each refusal is one of its
   -- kinds and has its cause. It uses the host no more than it may, it keeps within its touches, and it leaves what it
-  -- leaves
+  -- leaves: where the Head or the destination refuses it, what is told and the input
   pub record Makes (command : Command) (done : Result (List ℕ) Refusal) (before now : Around) : Type 0 where
     pub answers : (w : World) → TellsAs X N before.store.told w.standing
         → HasOutside (Ok command) (outside_of w) before now → Calm before.store now.store
@@ -83,6 +86,10 @@ module _ (X : List ℕ → List ℕ) (N : List ℕ → ℕ) where
         → Calm before.store now.store
         → IfSome (command_touches X N rows bytes command p es) (λ most. now.touches ≤ before.touches + most)
     pub touched : IsBlaming (refusal_fault done) → before.touches < now.touches
+    pub unready : (or_none : Bool) → (nature command).head ≡ AHead or_none → ended done ≡ status.NotReady
+        → LeavesAlone before now
+    pub unplaced : (p : Profile) (es : Entries) → NamesOver X N before.store.told p es
+        → Stood before.store.faults now.store.faults → HasNoSpot command es → LeavesAlone before now
     pub leaves : MakesLeaving command done before.store.told now.store.told
         (λ bytes. HasInput (Ok command) before.left bytes before.reads now.reads
         × Stood before.store.faults now.store.faults)
@@ -143,6 +150,10 @@ module _ (X : List ℕ → List ℕ) (N : List ℕ → ℕ) where
         → Calm before.store now.store
         → IfSome (command_touches X N rows bytes command p es) (λ most. now.touches ≤ before.touches + most)
     pub touched : IsBlaming (refusal_fault done) → before.touches < now.touches
+    pub unready : (or_none : Bool) → (nature command).head ≡ AHead or_none → ended done ≡ status.NotReady
+        → LeavesAlone before now
+    pub unplaced : (p : Profile) (es : Entries) → NamesOver X N before.store.told p es
+        → Stood before.store.faults now.store.faults → HasNoSpot command es → LeavesAlone before now
     pub leaves : DoesLeave command done before.store.told now.store.told
         (λ bytes. HasInput (Ok command) before.left bytes before.reads now.reads
         × Stood before.store.faults now.store.faults)

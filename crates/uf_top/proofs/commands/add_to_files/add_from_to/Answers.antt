@@ -1,9 +1,9 @@
-use Rattle.std.proofs.Common.{Some, Err}
+use Rattle.std.proofs.Common.{Some, Err, inl, inr, refl}
 use Rattle.std.proofs.lemmas.Result.{err_from_is_err_and}
 use Rattle.uf_top.specs.Around.{host_side}
 use Rattle.uf_top.specs.HostTexts.{host_text}
 use Rattle.uf_top.specs.Placing.{SaysHost}
-use Rattle.uf_top.proofs.Placed.{find-reads, host-kinds, is-put-there, not-found, not-given, of-host, put-reads, some-host, ungiven-blameless}
+use Rattle.uf_top.proofs.Placed.{begun-put, begun-ungiven, find-reads, host-kinds, is-put-there, not-found, not-given, of-host, put-reads, some-host, ungiven-blameless}
 use Rattle.uf_top.proofs.commands.add_to_files.add_from_to.Goals as goal
 
 pub returns-in_err-found : goal.returns-in_err-found
@@ -15,7 +15,8 @@ returns-in_err-found g c =
     let a = g.S.Store.seen c.args.store.now in let m = g.S.Store.seen c.find.new.store in
     of-host X N c.args.recursive path c.args.dest.now left reads held writes s s er er2 (Err c.in_err-found.field-0.0) a m c.args.touches.now c.find.new.touches
     (not-found X N c.args.dest.now (Some path) (λ p. SaysHost X N p host c.args.recursive path) (λ p. host_text X N p path) (some-host X N host c.args.recursive path) a m c.args.touches.now c.find.new.touches c.in_err-found.field-0.0 c.in_err-found.ensures)
-    (find-reads c.in_err-found.field-0.0 s c.in_err-found.ensures.unread))
+    (find-reads c.in_err-found.field-0.0 s c.in_err-found.ensures.unread)
+    (inl (record { told = c.in_err-found.ensures.reads.told; left = refl; reads = refl })))
 
 pub returns-in_err-given : goal.returns-in_err-given
 returns-in_err-given g c =
@@ -29,7 +30,8 @@ returns-in_err-given g c =
     of-host X N c.args.recursive path c.args.dest.now left reads held writes s t er er2 (Err c.in_err-given.field-0.0) a b c.args.touches.now c.find.new.touches
     (not-given X N c.args.dest.now (Some path) (λ p. SaysHost X N p host c.args.recursive path) (λ p. host_text X N p path) (some-host X N host c.args.recursive path) a m c.args.touches.now c.find.new.touches c.in_ok-found.found c.in_ok-found.ensures
     b c.find.new.touches c.in_err-given.field-0.0 e.gives e.saves (host-kinds (SaysHost X N c.in_ok-found.found.tree.profile host c.args.recursive path) path c.in_err-given.field-0.0 e.gives) (ungiven-blameless (SaysHost X N c.in_ok-found.found.tree.profile host c.args.recursive path) c.in_err-given.field-0.0 e.gives))
-    e.host)
+    e.host
+    (inr (begun-ungiven X N c.args.dest.now (Some path) (λ p. SaysHost X N p host c.args.recursive path) (λ p. host_text X N p path) (some-host X N host c.args.recursive path) a m c.args.touches.now c.find.new.touches c.in_ok-found.found c.in_ok-found.ensures b c.in_err-given.field-0.0 e.gives e.saves)))
 
 pub returns : goal.returns
 returns g c = λ left reads held writes er er2.
@@ -42,3 +44,5 @@ returns g c = λ left reads held writes er er2.
     (is-put-there X N c.args.dest.now (Some path) (λ p. SaysHost X N p host c.args.recursive path) (λ p. host_text X N p path) (some-host X N host c.args.recursive path) a m c.args.touches.now c.find.new.touches c.in_ok-found.found c.in_ok-found.ensures
     b d c.put.new.touches c.in_ok-found.ensures.touched.kept c.in_ok-given.given e.gives e.saves c.put.result c.put.ensures)
     (put-reads c.put.result s t c.put.ensures.kinds e.host)
+    (inr (begun-put X N c.args.dest.now (Some path) (λ p. SaysHost X N p host c.args.recursive path) (λ p. host_text X N p path) (some-host X N host c.args.recursive path) a m c.args.touches.now c.find.new.touches c.in_ok-found.found c.in_ok-found.ensures
+    b d c.put.new.touches c.in_ok-found.ensures.touched.kept c.in_ok-given.given e.gives e.saves c.put.result c.put.ensures))

@@ -33,3 +33,4 @@ returns-in_ok-piece-in-Ok g c = λ h w side er er2.
     c.edit_at.result (g.S.Store.seen c.args.store.now) (g.S.Store.seen c.edit_at.new.store) h w c.args.touches.now c.edit_at.new.touches side er er2
     (at-opened X N (Edits (Write c.args.how c.in_ok-piece-in-Ok.piece)) c.args.path.now (g.S.Store.seen c.args.store.now) (g.S.Store.seen c.from_store.new.store) e.told l i h w c.args.touches.now c.from_store.new.touches side er er2 e.touches
     c.in-Ok.tree c.edit_at.result (g.S.Store.seen c.edit_at.new.store) c.edit_at.new.touches e.opens e.lost e.head e.touched e.cause c.edit_at.ensures)
+    c.edit_at.ensures.kinds
