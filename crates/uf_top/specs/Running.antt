@@ -19,7 +19,8 @@ use Rattle.uf_top.specs.Answering.{LeavesNext}
 use Rattle.uf_top.specs.Around.{Around, CountsCanRise, HasOutside, NoneFalls, SameButErrors, StaysQuiet}
 use Rattle.uf_top.specs.Bounds.{command_touches}
 use Rattle.uf_top.specs.Caused.{StatusShows}
-use Rattle.uf_top.specs.Endings.{EndsAs, FindsAll, IsRefusedBy, IsSyncedFor, IsTextOf, PrintsAt, PrintsPart, SaysPlain, may_move}
+use Rattle.uf_top.specs.Endings.{EndsAs, FindsAll, IsRefusedBy, IsSyncedFor, IsTextOf, KeptFor}
+use Rattle.uf_top.specs.Endings.{PrintsAt, PrintsPart, SaysPlain, may_move}
 use Rattle.uf_top.specs.Getting.{GetsFor}
 use Rattle.uf_top.specs.Losing.{EndsOver, command_needs}
 use Rattle.uf_top.specs.Pins.{PinsAfter}
@@ -63,7 +64,8 @@ module _ (X : List ℕ → List ℕ) (N : List ℕ → ℕ) where
   -- what a command leaves. What is good stays, only a command that is done moves the Head, or an `add --to-files` of
   -- which only the output failed, and some commands leave all as it was; so does an edit that has nothing to do. Of
   -- the host `get` alone changes anything, also where it is refused or stopped. `pin add` and `pin rm` that are done
-  -- move the note of pins, and whatever else leaves it
+  -- move the note of pins, and whatever else leaves it. `dag import` adds first sections of its CAR, also where it is
+  -- refused
   pub record LeavesRight (command : Command) (given : Status) (before now : Around) : Type 0 where
     pub writes : WritesAs X (command_writes command) (is_done given) before.store.told now.store.told
     pub good : KeepsGood X before.store.told now.store.told
@@ -76,6 +78,7 @@ module _ (X : List ℕ → List ℕ) (N : List ℕ → ℕ) where
     pub host : writes_host command ≡ false → now.host.told ≡ before.host.told
     pub gets : GetsFor command given before.store.told before.host.told now.host.told
     pub pins : PinsAfter (Ok command) given before.store.told now.store.told
+    pub kept : KeptFor X command given before.store.told now.store.told before.left
 
   -- the commands that work on a tree keep within their touches, also where they are refused, and no block is called
   -- bad before one was touched

@@ -36,7 +36,7 @@ use Rattle.uf_top.specs.Around.{Around, CountsCanRise, HasOutside, RisesFor, Sam
 use Rattle.uf_top.specs.Around.{is_input_read, is_output_write}
 use Rattle.uf_top.specs.Bounds.{ask_touches, command_touches}
 use Rattle.uf_top.specs.Causes.{HeadStays, IsBadIn, IsReady, KeepsHead, is_read, is_write}
-use Rattle.uf_top.specs.Endings.{AddsFor, FindsAll, IsTextOf, PrintsAt, PrintsPart, RuleOf}
+use Rattle.uf_top.specs.Endings.{AddsFor, FindsAll, IsTextOf, KeptFor, PrintsAt, PrintsPart, RuleOf}
 use Rattle.uf_top.specs.Getting.{GetsFor}
 use Rattle.uf_top.specs.Hosted.{IsHostedText}
 use Rattle.uf_top.specs.Losing.{AnswersOver, DoesOver, ask_needs, command_needs}
@@ -125,6 +125,7 @@ module _ (X : List ℕ → List ℕ) (N : List ℕ → ℕ) where
     pub host : TakesHost (writes_host command) (uses_host command) (is_read done) (is_write done) before.host now.host
     pub gets : GetsFor command (ended done) before.store.told before.host.told now.host.told
     pub pins : PinsFor command done before.store.told now.store.told
+    pub kept : KeptFor X command (ended done) before.store.told now.store.told before.left
     pub writes : RisesFor (is_output_write command done) before.writes now.writes
     pub cause : Shown X (IsBadIn X N before.store.told now.store.told) (refusal_fault done) before.store now.store
     pub whole : (standing : Standing) → reads_tree_alone command ≡ true → TellsAs X N before.store.told standing
