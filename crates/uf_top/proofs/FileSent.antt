@@ -319,6 +319,7 @@ module _ (X : List ℕ → List ℕ) (N : List ℕ → ℕ) (offset count : ℕ)
         kinds = opening-kinds f why is;
         ready = ready-read offset count path a.told why (opening-ready a.told Stat path f why is head);
         adds = tt;
+        kept = tt;
         reads = tree-counts (Err why) i (opening-kinds f why is);
         host = refl;
         rows = tt;

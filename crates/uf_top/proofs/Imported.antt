@@ -385,7 +385,7 @@ module _ (X : List ℕ → List ℕ) (N : List ℕ → ℕ) (a b : Seen) (l m : 
       host = refl;
       gets = tt;
       pins = tt;
-      kept = kept-by X Import status.Ok status.WriteFault a.told b.told l (λ e. cc) k.kept;
+      kept = kept-by X N Import status.Ok status.WriteFault a.told b.told side.told l (λ e. cc) (λ e. cc) k.kept;
       writes = record { rose = c.counts.rose; still = c.counts.still };
       cause = k.cause;
       whole = λ s needs stands calm. absurd cc;

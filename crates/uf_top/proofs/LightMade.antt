@@ -314,6 +314,7 @@ module _ (X : List ℕ → List ℕ) (N : List ℕ → ℕ) (absent : Bool) (pat
         kinds = opening-kinds f why is;
         ready = ready-prove absent path a.told why (opening-ready a.told Stat path f why is head);
         adds = tt;
+        kept = tt;
         reads = tree-counts (Err why) i (opening-kinds f why is);
         host = refl;
         rows = tt;

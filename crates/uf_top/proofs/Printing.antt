@@ -34,7 +34,7 @@ use Rattle.uf_store.specs.declared.store.StoreFault.TheVariants as fault
 use Rattle.uf_top.specs.Answering.{Answers, DoesAnswer, LeavesNext}
 use Rattle.uf_top.specs.Around.{CountsCanRise, HasOutside, HostSide, RisesFor, SinkSide, TakesHost, UsesHost, around}
 use Rattle.uf_top.specs.Causes.{HeadStays, KeepsHead, is_read, is_write}
-use Rattle.uf_top.specs.Endings.{AddsFor, EndsBy, IsTextOf, KeptFor, PrintsAt, PrintsElse, PrintsPart, RuleOf}
+use Rattle.uf_top.specs.Endings.{AddsFor, EndsBy, IsTextOf, PrintsAt, PrintsElse, PrintsPart, RuleOf}
 use Rattle.uf_command.specs.Telling.{IsCut, Prints}
 use Rattle.uf_top.specs.Getting.{GetsFor}
 use Rattle.uf_top.specs.Hosted.{IsHostedText}
@@ -43,6 +43,7 @@ use Rattle.uf_top.specs.Losing.{AnswersOver, DoesOver}
 use Rattle.uf_top.specs.Naming.{FindsOver, NamesIf, NamesAs, StandsIf, TellsHost}
 use Rattle.uf_top.specs.Shapes.{WritesAs, is_done}
 use Rattle.uf_top.specs.Working.{Does, Makes, SaysText}
+use Rattle.uf_top.proofs.Fronts.{kept-by}
 
 -- ---- which kinds no command that waits has
 
@@ -156,23 +157,6 @@ alone-pins (Same cid) h done told now = tt
 alone-pins (Adopt source dest) h done told now = tt
 alone-pins (Gen n seed) h done told now = tt
 alone-pins (Pin ask) h done told now = absurd cc
-
--- nor one of which is said what of its input it keeps
-alone-kept : (X : List ℕ → List ℕ) (command : Command) → natures.reads_tree_alone command ≡ true → (given : Status) (told now : Told) (left : streams.Told) → KeptFor X command given told now left
-alone-kept X (Init p) h given told now left = tt
-alone-kept X (Add what) h given told now left = tt
-alone-kept X (WriteInput how path) h given told now left = tt
-alone-kept X (At ask path) h given told now left = tt
-alone-kept X (Read offset count path) h given told now left = tt
-alone-kept X (Prove absent path) h given told now left = tt
-alone-kept X (Cat path) h given told now left = tt
-alone-kept X (Get path host_path) h given told now left = tt
-alone-kept X (Export cid) h given told now left = tt
-alone-kept X Import h given told now left = absurd cc
-alone-kept X (Same cid) h given told now left = tt
-alone-kept X (Adopt source dest) h given told now left = tt
-alone-kept X (Gen n seed) h given told now left = tt
-alone-kept X (Pin ask) h given told now left = tt
 
 -- a command that doesn't use the host says nothing of it
 pub of-no-host : {A B : Type 0} → A ⊎ B → A ⊎ (B × ⊤)
@@ -484,7 +468,7 @@ module _ (X : List ℕ → List ℕ) (N : List ℕ → ℕ) where
           host = takes (is_read {A = Unit {0}} (Err why)) (is_write {A = Unit {0}} (Err why)) mk.host;
           gets = alone-gets command alone (ended {A = Unit {0}} (Err why)) a.told side.told side2.told;
           pins = alone-pins command alone (Err why) a.told b.told;
-          kept = alone-kept X command alone (ended {A = Unit {0}} (Err why)) a.told b.told l;
+          kept = mk.kept;
           writes = rises (is_write {A = Unit {0}} (Err why)) w (subst (λ f. RisesFor f w w) (sym quiet.unwritten) (rises-still w));
           cause = mk.cause;
           whole = λ s needs stands calm. mk.whole s stands calm;
@@ -559,7 +543,7 @@ module _ (X : List ℕ → List ℕ) (N : List ℕ → ℕ) where
           host = takes false false mk.host;
           gets = alone-gets command alone status.Ok a.told side.told side2.told;
           pins = alone-pins command alone (Ok tt) a.told b.told;
-          kept = alone-kept X command alone status.Ok a.told b.told l;
+          kept = mk.kept;
           writes = rises false v (record { rose = counts.rose; still = counts.still });
           cause = mk.cause;
           whole = λ s needs stands calm. mk.whole s stands calm;
@@ -604,7 +588,7 @@ module _ (X : List ℕ → List ℕ) (N : List ℕ → ℕ) where
               host = takes false true mk.host;
               gets = alone-gets command alone status.WriteFault a.told side.told side2.told;
               pins = alone-pins command alone (Err refusal.Write) a.told b.told;
-              kept = alone-kept X command alone status.WriteFault a.told b.told l;
+              kept = kept-by X N command status.Ok status.WriteFault a.told b.told side.told l (λ e. cc) (λ e. cc) mk.kept;
               writes = rises true v (record { rose = c.counts.rose; still = c.counts.still });
               cause = mk.cause;
               whole = λ s needs stands calm. (λ e. cc, λ e. cc);

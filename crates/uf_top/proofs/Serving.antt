@@ -168,7 +168,7 @@ module _ (X : List ℕ → List ℕ) (N : List ℕ → ℕ) (a : Around) (er2 : 
     host = still-host command;
     gets = nothing-gotten command a.store.told a.host.told;
     pins = nothing-pinned command a.store.told;
-    kept = nothing-kept X command status.Memory a.store.told a.left (λ e. cc);
+    kept = nothing-kept X N command status.Memory a.store.told a.host.told a.left (λ e. cc);
     writes = still-written command;
     cause = calm-memory a.store a.store (StaysCalm-refl a.store);
     whole = λ s needs stands calm. (λ e. cc, λ e. cc);

@@ -170,7 +170,7 @@ plain-of (refusal.Store (fault.Clash cid first second)) e = absurd cc
 plain-of (refusal.Store fault.Memory) e = refl
 
 -- no refusal ends as Ok, and one that ends as a failed write is that
-not-ok : (why : Refusal) → status_of why ≡ status.Ok → ⊥
+pub not-ok : (why : Refusal) → status_of why ≡ status.Ok → ⊥
 not-ok (refusal.Rule rule) e = cc
 not-ok (refusal.Dag rule) e = cc
 not-ok (refusal.Car number place) e = cc
@@ -661,11 +661,11 @@ module _ (a b : Around) where
           (by-pins command (Err no_memory) (detailed-pins command why a.store.told b.store.told t.0 s.pins) (subst (λ d. WritesAs X (command_writes command) d a.store.told b.store.told) (detailed-undone (status_of why) t.0) s.leaves.writes))
 
       -- what was added of what was read
-      pub kept-told : (command : Command) (done : Result (Unit {0}) Refusal) → Does X N command done a b → TellsEnd Says done given → KeptFor X command given a.store.told b.store.told a.left
-      kept-told command (Ok done) s t = subst (λ g. KeptFor X command g a.store.told b.store.told a.left) (sym t.0) s.kept
-      kept-told command (Err why) s (inl t) = subst (λ g. KeptFor X command g a.store.told b.store.told a.left) (sym t.0) s.kept
+      pub kept-told : (command : Command) (done : Result (Unit {0}) Refusal) → Does X N command done a b → TellsEnd Says done given → KeptFor X N command given a.store.told b.store.told a.host.told a.left
+      kept-told command (Ok done) s t = subst (λ g. KeptFor X N command g a.store.told b.store.told a.host.told a.left) (sym t.0) s.kept
+      kept-told command (Err why) s (inl t) = subst (λ g. KeptFor X N command g a.store.told b.store.told a.host.told a.left) (sym t.0) s.kept
       kept-told command (Err why) s (inr t) =
-          subst (λ g. KeptFor X command g a.store.told b.store.told a.left) (sym t.1) (kept-by X command (status_of why) status.Memory a.store.told b.store.told a.left (λ e. cc) s.kept)
+          subst (λ g. KeptFor X N command g a.store.told b.store.told a.host.told a.left) (sym t.1) (kept-by X N command (status_of why) status.Memory a.store.told b.store.told a.host.told a.left (λ e. cc) (λ e. cc) s.kept)
 
       -- ---- no block is called bad before one was touched
 

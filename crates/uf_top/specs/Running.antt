@@ -64,8 +64,8 @@ module _ (X : List ℕ → List ℕ) (N : List ℕ → ℕ) where
   -- what a command leaves. What is good stays, only a command that is done moves the Head, or an `add --to-files` of
   -- which only the output failed, and some commands leave all as it was; so does an edit that has nothing to do. Of
   -- the host `get` alone changes anything, also where it is refused or stopped. `pin add` and `pin rm` that are done
-  -- move the note of pins, and whatever else leaves it. `dag import` adds first sections of its CAR, also where it is
-  -- refused
+  -- move the note of pins, and whatever else leaves it. `dag import` adds first sections of its CAR, `add` without
+  -- `--to-files` blocks of what it reads, and each no others, also where it is refused
   pub record LeavesRight (command : Command) (given : Status) (before now : Around) : Type 0 where
     pub writes : WritesAs X (command_writes command) (is_done given) before.store.told now.store.told
     pub good : KeepsGood X before.store.told now.store.told
@@ -78,7 +78,7 @@ module _ (X : List ℕ → List ℕ) (N : List ℕ → ℕ) where
     pub host : writes_host command ≡ false → now.host.told ≡ before.host.told
     pub gets : GetsFor command given before.store.told before.host.told now.host.told
     pub pins : PinsAfter (Ok command) given before.store.told now.store.told
-    pub kept : KeptFor X command given before.store.told now.store.told before.left
+    pub kept : KeptFor X N command given before.store.told now.store.told before.host.told before.left
 
   -- the commands that work on a tree keep within their touches, also where they are refused, and no block is called
   -- bad before one was touched
