@@ -316,6 +316,7 @@ module _ (X : List ℕ → List ℕ) (N : List ℕ → ℕ) where
           host = refl;
           gets = tt;
           pins = tt;
+          kept = tt;
           writes = subst (λ f. RisesFor f w w) (sym quiet.unwritten) (rises-still w);
           cause = Shown-opening Mfs X (IsBadInHead X N a.told) (IsBadIn X N a.told m.told) (bad-of-none X N a.told m.told) f why a m is cause;
           whole = λ s needs stands quiet2. absurd cc;
@@ -396,6 +397,7 @@ module _ (X : List ℕ → List ℕ) (N : List ℕ → ℕ) where
             host = refl;
             gets = tt;
             pins = tt;
+            kept = tt;
             writes = subst (λ f. RisesFor f w w) (sym quiet.unwritten) (rises-still w);
             cause = shown (Err why) g;
             whole = λ s needs stands quiet2. absurd cc;
@@ -427,6 +429,7 @@ module _ (X : List ℕ → List ℕ) (N : List ℕ → ℕ) where
         host = refl;
         gets = tt;
         pins = tt;
+        kept = tt;
         writes = rises-still w;
         cause = shown (Ok tt) g;
         whole = λ s needs stands quiet2. absurd cc;

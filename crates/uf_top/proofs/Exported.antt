@@ -148,6 +148,7 @@ module _ (X : List ℕ → List ℕ) (N : List ℕ → ℕ) (cid : Cid) (a b : S
         host = refl;
         gets = tt;
         pins = tt;
+        kept = tt;
         writes = subst (λ f. RisesFor f w w2) (sym quiet.unwritten) (record { rose = λ e. absurd cc; still = λ e. still });
         cause = shown-by X NoneIsBad (IsBadIn X N a.told b.told) (fault_behind why) a b (λ role bytes bad. absurd bad) cause;
         whole = λ s needs stands calm. absurd cc;
@@ -183,6 +184,7 @@ module _ (X : List ℕ → List ℕ) (N : List ℕ → ℕ) (cid : Cid) (a b : S
     host = refl;
     gets = tt;
     pins = tt;
+    kept = tt;
     writes = record { rose = λ e. absurd cc; still = λ e. still };
     cause = calm;
     whole = λ s needs stands quiet. absurd cc;
@@ -219,6 +221,7 @@ module _ (X : List ℕ → List ℕ) (N : List ℕ → ℕ) (cid : Cid) (a b : S
     host = refl;
     gets = tt;
     pins = tt;
+    kept = tt;
     writes = record { rose = counts.rose; still = λ e. absurd cc };
     cause = calm;
     whole = λ s needs stands quiet. absurd cc;

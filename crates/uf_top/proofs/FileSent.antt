@@ -319,6 +319,7 @@ module _ (X : List ℕ → List ℕ) (N : List ℕ → ℕ) (offset count : ℕ)
         kinds = opening-kinds f why is;
         ready = ready-read offset count path a.told why (opening-ready a.told Stat path f why is head);
         adds = tt;
+        kept = tt;
         reads = tree-counts (Err why) i (opening-kinds f why is);
         host = refl;
         rows = tt;
@@ -417,6 +418,7 @@ module _ (X : List ℕ → List ℕ) (N : List ℕ → ℕ) (offset count : ℕ)
       host = refl;
       gets = tt;
       pins = tt;
+      kept = tt;
       writes = sending-counts X (IsBadRead X N m.told found.root.cid) m b w w2 r done sent cause;
       cause = shown-after X (IsBadIn X N a.told b.told) (refusal_fault done) a m b calm
           (shown-by X (IsBadRead X N m.told found.root.cid) (IsBadIn X N a.told b.told) (refusal_fault done) m b (λ role bytes bad. bad-of-read (subst (λ t. IsBadRead X N t found.root.cid role bytes) told bad)) (sending-shown X (IsBadRead X N m.told found.root.cid) m b w w2 r done sent cause));

@@ -515,6 +515,7 @@ module _ (X : List ℕ → List ℕ) (N : List ℕ → ℕ) (source : DagPath) (
       host = record { reads = reads; writes = writes };
       gets = record { below = below; leaves = stands-left a.told gets };
       pins = tt;
+      kept = tt;
       writes = rises-still w;
       cause = shown-by X NoneIsBad (IsBadIn X N a.told b.told) (refusal_fault done) a b (λ role bytes bad. absurd bad) cause;
       whole = λ s needs stands calm. absurd cc;

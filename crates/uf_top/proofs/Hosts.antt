@@ -32,6 +32,7 @@ use Rattle.uf_tree.specs.declared.profile.Profile.{Profile}
 use Rattle.uf_command.specs.Natures.{SyncsBlocks, command_writes}
 use Rattle.uf_command.specs.Kinds.{add_host_kinds, IsOf, OfBadBlock, OfSections, OfMissing, fault_kind, may_meet, refusal_fault, refusal_kind}
 use Rattle.uf_command.specs.Statuses.{ended, no_memory, status_of}
+use Rattle.uf_command.specs.declared.status.Status.{Status}
 use Rattle.uf_command.specs.declared.status.Status.TheVariants as status
 use Rattle.uf_command.specs.declared.types.Command.TheVariants.{Add}
 use Rattle.uf_command.specs.declared.types.Adding.TheVariants as adding
@@ -42,8 +43,8 @@ use Rattle.uf_top.specs.Answering.{Answers}
 use Rattle.uf_top.specs.Around.{HostSide, OnlyReadsHost, SinkSide, around}
 use Rattle.uf_top.specs.Bounds.{command_touches}
 use Rattle.uf_top.specs.Causes.{AddsBy, HoldsUnless, IsBadIn, IsProfileIn, IsProfileOf, IsProfileRead, IsReady, IsReason, IsUnread, OnlyWants, Stops, is_read, or_usual}
-use Rattle.uf_top.specs.Endings.{FindsAll}
-use Rattle.uf_top.specs.Hosted.{AreHostRows, IsHostRefused, IsHostRule, IsNoReading, MakesHostText}
+use Rattle.uf_top.specs.Endings.{FindsAll, KeptFor}
+use Rattle.uf_top.specs.Hosted.{AddsTrees, AreHostRows, IsHostRefused, IsHostRule, IsNoReading, MakesHostText}
 use Rattle.uf_top.specs.HostTexts.{host_refusal, host_text}
 use Rattle.uf_top.specs.Intake.{ShownIn}
 use Rattle.uf_top.specs.Losing.{AnswersOver}
@@ -317,6 +318,11 @@ module _ (X : List ℕ → List ℕ) (N : List ℕ → ℕ) where
 
   -- ---- how it is done
 
+  -- where nothing was written, nothing was added
+  trees-same : (recursive only_hash : Bool) (path : List ℕ) (given : Status) (a b : Told) (host : HostTold) (left : streams.Told) → b ≡ a → KeptFor X N (Add (adding.Host recursive only_hash path)) given a b host left
+  trees-same recursive true path given a b host left e = tt
+  trees-same recursive false path given a b host left e = inl e
+
   module _ (good : IsHash X) (recursive : Bool) (path : List ℕ) (a m : Seen) (told : m.told ≡ a.told) (side : HostSide) (er er2 : SinkSide) (l : streams.Told) (i : ℕ) (h : streams.Told) (w : ℕ) where
     -- the Head isn't read, or not in memory
     pub from-unread : (only_hash : Bool) (t0 : ℕ) (why : Refusal) → IsProfileRead (Err why) a.told → ShownIn {A = Option Profile} X (Err why) a m
@@ -330,6 +336,7 @@ module _ (X : List ℕ → List ℕ) (N : List ℕ → ℕ) where
           kinds = head-kind a.told why end;
           ready = head-ready a.told recursive only_hash path why end;
           adds = tt;
+          kept = trees-same recursive only_hash path (status_of why) a.told m.told side.told l told;
           reads = counts-still i;
           host = head-reads a.told why side end;
           rows = tt;
@@ -351,6 +358,7 @@ module _ (X : List ℕ → List ℕ) (N : List ℕ → ℕ) where
       kinds = refl;
       ready = none;
       adds = tt;
+      kept = inl told;
       reads = counts-still i;
       host = record { told = refl; reads = counts-still side.reads; writes = refl };
       rows = tt;
@@ -366,8 +374,8 @@ module _ (X : List ℕ → List ℕ) (N : List ℕ → ℕ) where
     module _ (calm : StaysCalm a m) (r : Result (List ℕ) Refusal) (side2 : HostSide) (reads : OnlyReadsHost (is_read r) side side2) where
       -- what the host has is added by the profile of the Head
       pub is-kept : (p : Profile) (b : Seen) (t0 t1 : ℕ) → IfSome a.told (λ t. IsProfileIn (Some p) t.notes.head) → MakesHostText X N p b.told side.told recursive path r → ShownIn X r m b → KeepsGood X m.told b.told
-          → WritesAs X SyncsBlocks (is_ok r) m.told b.told → Makes X N (Add (adding.Host recursive false path)) r (around a l i h w t0 side er) (around b l i h w t1 side2 er2)
-      is-kept p b t0 t1 says text shown kept writes =
+          → WritesAs X SyncsBlocks (is_ok r) m.told b.told → AddsTrees X N (ended r) p m.told b.told side.told recursive path → Makes X N (Add (adding.Host recursive false path)) r (around a l i h w t0 side er) (around b l i h w t1 side2 er2)
+      is-kept p b t0 t1 says text shown kept writes only =
           let keeps = subst (λ t. KeepsGood X t b.told) told kept in
           let written = subst (λ t. WritesAs X SyncsBlocks (is_ok r) t b.told) told writes in
           let head = add-head X (is_ok r) a.told b.told written in
@@ -388,6 +396,7 @@ module _ (X : List ℕ → List ℕ) (N : List ℕ → ℕ) where
             kinds = kinds;
             ready = text-ready p b.told side.told recursive false path a.told r text;
             adds = tt;
+            kept = inr (p, says, subst (λ t. AddsTrees X N (ended r) p t b.told side.told recursive path) told only);
             reads = counts-still i;
             host = reads;
             rows = text-rows p b.told a.told b.told side.told recursive false path r (λ list held. held) (by-told a.told false p says) text;
@@ -421,6 +430,7 @@ module _ (X : List ℕ → List ℕ) (N : List ℕ → ℕ) where
             kinds = kinds;
             ready = text-ready p None side.told recursive true path a.told r text;
             adds = tt;
+            kept = tt;
             reads = counts-still i;
             host = reads;
             rows = text-rows p None a.told m.told side.told recursive true path r (λ list held. tt) (subst (λ p. IfSome a.told (λ t. AddsBy true t.notes.head p)) (sym is) (by-found a.told found says)) text;

@@ -1,7 +1,7 @@
 -- How a CAR is read into the store, and its roots printed.
 use Rattle.std.proofs.Common.{◌≡◌, ◌≢◌, ◌⊎◌, ℕ, List, [], false, true, arith, refl, sym, ap, subst, ◌∙◌, inl, inr, take, Some, None, Result, Ok, Err}
 use Rattle.std.proofs.lemmas.List.{take_all}
-use Rattle.std.specs.Prelude.{IfOk, IfSome, IsSome, OnErr, OnOk}
+use Rattle.std.specs.Prelude.{IfOk, IfSome, IsSome, OnErr, OnOk, length}
 use Rattle.std.specs.List.{flat_map}
 use Rattle.uf_car.specs.Importing.{ImportsCar, car_fault, is_source_fault, stops, with_saves}
 use Rattle.uf_car.specs.Reading.{car_read}
@@ -33,13 +33,14 @@ use Rattle.uf_command.specs.Natures.{SyncsBlocks}
 use Rattle.uf_command.specs.Kinds.{import_kinds, OfWrite, fault_behind, fault_kind, may_meet, read_kind, refusal_fault, refusal_kind}
 use Rattle.uf_top.specs.Reply.{Outside, World, in_world, reply}
 use Rattle.uf_command.specs.Statuses.{no_memory, status_of}
+use Rattle.uf_command.specs.declared.status.Status.{Status}
 use Rattle.uf_command.specs.declared.status.Status.TheVariants as status
 use Rattle.uf_command.specs.declared.types.Command.TheVariants.{Import}
 use Rattle.uf_command.specs.declared.types.Refusal.{Refusal}
 use Rattle.uf_command.specs.declared.types.Refusal.TheVariants as refusal
 use Rattle.uf_top.specs.Answering.{DoesAnswer}
 use Rattle.uf_top.specs.Around.{CountsCanRise, HostSide, RisesFor, SinkSide, around}
-use Rattle.uf_top.specs.Cars.{AddsCar, IsImported, KeepsCar, TellsRoots}
+use Rattle.uf_top.specs.Cars.{AddsCar, IsImported, KeepsCar, KeepsFront, TellsRoots}
 use Rattle.uf_top.specs.Causes.{IsBadIn, IsReadyBy, Stops, is_read}
 use Rattle.uf_top.specs.Endings.{EndsBy, PrintsPart}
 use Rattle.uf_command.specs.Telling.{IsCut, Prints}
@@ -47,6 +48,7 @@ use Rattle.uf_top.specs.Losing.{DoesOver}
 use Rattle.uf_top.specs.Naming.{NamesAfter, TellsBlocks}
 use Rattle.uf_top.specs.Shapes.{WritesAs}
 use Rattle.uf_top.specs.Working.{Does}
+use Rattle.uf_top.proofs.Fronts.{kept-by}
 use Rattle.uf_top.proofs.Inputs.{add-head, synced-writes}
 use Rattle.uf_top.proofs.Kept.{sections-held}
 use Rattle.uf_top.proofs.Losing.{names-kept}
@@ -71,6 +73,15 @@ no-read (fault.Missing cid) = refl
 no-read (fault.BadBlock cid role) = refl
 no-read (fault.Clash cid held bytes) = refl
 no-read fault.Memory = refl
+
+-- nor a rule
+no-rule : (f : StoreFault) → status_of (refusal.Store f) ≡ status.Rule → ⊥
+no-rule fault.Failed is = cc
+no-rule (fault.Damaged cid) is = cc
+no-rule (fault.Missing cid) is = cc
+no-rule (fault.BadBlock cid role) is = cc
+no-rule (fault.Clash cid held bytes) is = cc
+no-rule fault.Memory is = cc
 
 unread : (f : StoreFault) (i j : ℕ) → Counts false i j → Counts (is_read {A = List ℕ} (Err (refusal.Store f))) i j
 unread f i j counts = subst (λ b. Counts b i j) (sym (no-read f)) counts
@@ -115,11 +126,32 @@ module _ (X : List ℕ → List ℕ) where
     writes : WritesAs X SyncsBlocks false a.told b.told
     writes = record { between = b.told; saves = saves; last = Same refl }
 
+    -- the first sections were kept, and all where the CAR is at fault
+    front-kept : (f : CarFault) (given : Status) → (given ≡ status.Rule → stops f ≡ false) → Reads (Err f) → KeepsFront X given a.told b.told l
+    front-kept f given rule reads = by l reads
+      where
+        by : (m : streams.Told) → ((bytes : List ℕ) → m ≡ Some bytes → ImportsCar (car_read X most_car bytes) (Err f) a.told b.told) → KeepsFront X given a.told b.told m
+        by None h = tt
+        by (Some bytes) h = let k = (h bytes refl).kept in record { count = k.count; few = k.few; added = Same k.kept; all = λ is. k.all (rule is) }
+
+    -- all sections were kept, and at most made durable then
+    all-kept : (imported : Imported) (given : Status) (c : Told) → Reads (Ok imported) → LeavesHead b.told c → KeepsFront X given a.told c l
+    all-kept imported given c reads leaves = by l reads
+      where
+        by : (m : streams.Told) → ((bytes : List ℕ) → m ≡ Some bytes → ImportsCar (car_read X most_car bytes) (Ok imported) a.told b.told) → KeepsFront X given a.told c m
+        by None h = tt
+        by (Some bytes) h =
+            let sections = (car_read X most_car bytes).sections in
+            let all : take (length sections) sections ≡ sections = take_all (length sections) sections (search arith) in
+            let is : b.told ≡ changed (with_saves (take (length sections) sections)) a.told = (h bytes refl).kept ∙ ap (λ (l : List Held). changed (with_saves l) a.told) (sym all) in
+            record { count = length sections; few = search arith; added = subst (λ t. LeavesHead t c) is leaves; all = λ e. refl }
+
     -- a fault of the CAR
     ruled : (f : CarFault) (number place : ℕ) → stops f ≡ false → car_refusal f ≡ refusal.Car number place → Reads (Err f) → StaysCalm a b → Counts false i j → KeepsCar X (Err (refusal.Car number place)) a b l i j
     ruled f number place other is reads calm counts = record {
       roots = λ held bytes tells given stood quiet. inr (told held bytes tells (reads bytes given));
       added = tt;
+      kept = front-kept f status.Rule (λ e. other) reads;
       kinds = refl;
       counts = counts;
       cause = calm;
@@ -150,6 +182,7 @@ module _ (X : List ℕ → List ℕ) where
     car-refused car.Read reads cause saving counts = record {
       roots = λ held bytes tells given stood quiet. absurd (not-rose i j (counts.rose refl) stood);
       added = tt;
+      kept = front-kept car.Read status.ReadFault (λ e. absurd cc) reads;
       kinds = refl;
       counts = counts;
       cause = cause;
@@ -159,6 +192,7 @@ module _ (X : List ℕ → List ℕ) where
     car-refused (car.Store f) reads cause saving counts = record {
       roots = λ held bytes tells given stood quiet. inl (ap (λ (f : StoreFault). Err (refusal.Store f)) (saving-wants X NoneIsBad f a b saving cause quiet.faults quiet.clashes));
       added = tt;
+      kept = front-kept (car.Store f) (status_of (refusal.Store f)) (λ e. absurd (no-rule f e)) reads;
       kinds = saving-kind f saving;
       counts = unread f i j counts;
       cause = cause;
@@ -173,6 +207,7 @@ module _ (X : List ℕ → List ℕ) where
       roots-synced imported (Ok line) reads is stopped synced failed cause = record {
         roots = λ held bytes tells given stood quiet. inr (told held bytes tells (reads bytes given));
         added = imported-told l (λ bytes given. all-added bytes (reads bytes given));
+        kept = all-kept imported status.Ok c.told reads (OnlySynced synced);
         kinds = tt;
         counts = counts;
         cause = shown-after X NoneIsBad None a b c calm cause;
@@ -206,6 +241,7 @@ module _ (X : List ℕ → List ℕ) where
                 roots = λ held bytes tells given stood quiet. inl (ap (λ (f : StoreFault). Err (refusal.Store f)) (saving-wants X NoneIsBad f b c saving shown
                     (stood-back a.faults b.faults c.faults calm.faults quiet.faults) (stood-back a.clashes b.clashes c.clashes calm.clashes quiet.clashes)));
                 added = tt;
+                kept = all-kept imported (status_of (refusal.Store f)) c.told reads failed;
                 kinds = saving-kind f saving;
                 counts = unread f i j counts;
                 cause = shown-after X NoneIsBad (Some f) a b c calm shown;
@@ -275,6 +311,7 @@ module _ (X : List ℕ → List ℕ) (N : List ℕ → ℕ) (a b : Seen) (l m : 
         host = refl;
         gets = tt;
         pins = tt;
+        kept = k.kept;
         writes = subst (λ f. RisesFor f w w) (sym quiet.unwritten) (rises-still w);
         cause = shown-by X NoneIsBad (IsBadIn X N a.told b.told) (fault_behind why) a b (λ role bytes bad. absurd bad) k.cause;
         whole = λ s needs stands calm. absurd cc;
@@ -320,6 +357,7 @@ module _ (X : List ℕ → List ℕ) (N : List ℕ → ℕ) (a b : Seen) (l m : 
       host = refl;
       gets = tt;
       pins = tt;
+      kept = k.kept;
       writes = record { rose = counts.rose; still = counts.still };
       cause = k.cause;
       whole = λ s needs stands calm. absurd cc;
@@ -354,6 +392,7 @@ module _ (X : List ℕ → List ℕ) (N : List ℕ → ℕ) (a b : Seen) (l m : 
       host = refl;
       gets = tt;
       pins = tt;
+      kept = kept-by X N Import status.Ok status.WriteFault a.told b.told side.told l (λ e. cc) (λ e. cc) k.kept;
       writes = record { rose = c.counts.rose; still = c.counts.still };
       cause = k.cause;
       whole = λ s needs stands calm. absurd cc;

@@ -1,7 +1,8 @@
 -- How `add` is done.
-use Rattle.std.proofs.Common.{◌≡◌, ℕ, List, [], Bool, true, false, refl, sym, ap, subst, ◌∙◌, Option, Some, None, Result, Ok, Err}
+use Rattle.std.proofs.Common.{◌≡◌, ℕ, List, [], Bool, true, false, refl, sym, ap, subst, ◌∙◌, inl, inr, Option, Some, None, Result, Ok, Err}
 use Rattle.std.specs.Prelude.{IfSome, OnErr, OnOk}
 use Rattle.uf_edge.specs.Counts.{Counts}
+use Rattle.uf_edge.specs.Host.{HostTold}
 use Rattle.uf_edge.specs.Streams as streams
 use Rattle.uf_mfs.specs.Standing.{LeavesHead, Same, OnlySynced, head_in}
 use Rattle.uf_mfs.proofs.Starting.{leaves-head, saves-head}
@@ -20,6 +21,8 @@ use Rattle.uf_plain.specs.declared.ready.Ready.TheVariants as ready
 use Rattle.uf_command.specs.Natures.{SyncsBlocks, command_writes}
 use Rattle.uf_command.specs.Kinds.{refusal_fault}
 use Rattle.uf_top.specs.Reply.{add_reply}
+use Rattle.uf_command.specs.Statuses.{status_of}
+use Rattle.uf_command.specs.declared.status.Status.{Status}
 use Rattle.uf_command.specs.declared.types.Command.TheVariants.{Add}
 use Rattle.uf_command.specs.declared.types.Adding.TheVariants as adding
 use Rattle.uf_command.specs.declared.types.Refusal.{Refusal}
@@ -27,7 +30,8 @@ use Rattle.uf_command.specs.declared.types.Refusal.TheVariants as refusal
 use Rattle.uf_top.specs.Around.{HostSide, SinkSide, around}
 use Rattle.uf_top.specs.Bounds.{command_touches}
 use Rattle.uf_top.specs.Causes.{AddsBy, IsBadIn, IsProfileIn, IsProfileRead, OnlyWants, is_read, or_usual}
-use Rattle.uf_top.specs.Intake.{IsRowOf, ShownIn}
+use Rattle.uf_top.specs.Endings.{KeptFor}
+use Rattle.uf_top.specs.Intake.{AddsFile, IsRowOf, ShownIn}
 use Rattle.uf_top.specs.Shapes.{WritesAs, is_ok}
 use Rattle.uf_top.specs.Working.{Makes}
 use Rattle.uf_top.proofs.Added.{add-answers, add-over, added-answers, added-over, hash-over, unread-over, adds-of, adds-read, by-found, by-told, hash-answers, head-absent, head-refused, plan_blocks, read-ready, row-ready}
@@ -43,6 +47,11 @@ use Rattle.uf_top.proofs.Unready.{row-unready}
 add-same : (X : List ℕ → List ℕ) (only_hash : Bool) (a b : Told) → b ≡ a → WritesAs X (command_writes (Add (adding.Input only_hash))) false a b
 add-same X true a b e = e
 add-same X false a b e = record { between = a; saves = SavesOnly-refl X a; last = Same e }
+
+-- and has added nothing
+file-same : (X : List ℕ → List ℕ) (N : List ℕ → ℕ) (only_hash : Bool) (given : Status) (a b : Told) (host : HostTold) (left : streams.Told) → b ≡ a → KeptFor X N (Add (adding.Input only_hash)) given a b host left
+file-same X N true given a b host left e = tt
+file-same X N false given a b host left e = inl e
 
 -- what saves and a sync write moves no Head
 synced-head : (a b : Told) → b ≡ changed with_sync a → head_in b ≡ head_in a
@@ -67,6 +76,7 @@ module _ (X : List ℕ → List ℕ) (hash : IsHash X) (N : List ℕ → ℕ) (a
     kinds = read-kinds why a.told read;
     ready = read-ready only_hash a.told why read;
     adds = adds-read X only_hash a.told m.told why l l read;
+    kept = file-same X N only_hash (status_of why) a.told m.told side.told l told;
     reads = head-counts why a.told i read;
     host = refl;
     rows = tt;
@@ -87,6 +97,7 @@ module _ (X : List ℕ → List ℕ) (hash : IsHash X) (N : List ℕ → ℕ) (a
     kinds = refl;
     ready = none;
     adds = tt;
+    kept = inl told;
     reads = counts-still i;
     host = refl;
     rows = tt;
@@ -102,8 +113,8 @@ module _ (X : List ℕ → List ℕ) (hash : IsHash X) (N : List ℕ → ℕ) (a
   module _ (calm : StaysCalm a m) (r : Result (List ℕ) Refusal) (k : streams.Told) (j : ℕ) (counts : Counts (is_read r) i j) where
     -- the input is added by the profile of the Head
     pub is-added : (p : Profile) (b : Seen) (t1 : ℕ) → IfSome a.told (λ t. IsProfileIn (Some p) t.notes.head) → IsRowOf X p b.told r l k → ShownIn X r m b → KeepsGood X m.told b.told
-        → WritesAs X SyncsBlocks (is_ok r) m.told b.told → Makes X N (Add (adding.Input false)) r (around a l i h w t0 side er) (around b k j h w t1 side er2)
-    is-added p b t1 says row shown kept writes =
+        → WritesAs X SyncsBlocks (is_ok r) m.told b.told → AddsFile X p m.told b.told l → Makes X N (Add (adding.Input false)) r (around a l i h w t0 side er) (around b k j h w t1 side er2)
+    is-added p b t1 says row shown kept writes only =
         let good = subst (λ t. KeepsGood X t b.told) told kept in
         let written = subst (λ t. WritesAs X SyncsBlocks (is_ok r) t b.told) told writes in
         let head = add-head X (is_ok r) a.told b.told written in
@@ -123,6 +134,7 @@ module _ (X : List ℕ → List ℕ) (hash : IsHash X) (N : List ℕ → ℕ) (a
           kinds = row-kinds X p b.told r l k row;
           ready = row-ready X false a.told b.told p r l k row;
           adds = adds-of X false a.told b.told b.told p r l k (λ list held. held) (by-told a.told false p says) row;
+          kept = inr (p, says, subst (λ t. AddsFile X p t b.told l) told only);
           reads = counts;
           host = refl;
           rows = no-rows r;
@@ -154,6 +166,7 @@ module _ (X : List ℕ → List ℕ) (hash : IsHash X) (N : List ℕ → ℕ) (a
           kinds = row-kinds X p None r l k row;
           ready = row-ready X true a.told None p r l k row;
           adds = adds-of X true a.told None m.told p r l k (λ list held. tt) (subst (λ p. IfSome a.told (λ t. AddsBy true t.notes.head p)) (sym is) (by-found a.told found says)) row;
+          kept = tt;
           reads = counts;
           host = refl;
           rows = no-rows r;

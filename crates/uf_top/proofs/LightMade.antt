@@ -314,6 +314,7 @@ module _ (X : List ℕ → List ℕ) (N : List ℕ → ℕ) (absent : Bool) (pat
         kinds = opening-kinds f why is;
         ready = ready-prove absent path a.told why (opening-ready a.told Stat path f why is head);
         adds = tt;
+        kept = tt;
         reads = tree-counts (Err why) i (opening-kinds f why is);
         host = refl;
         rows = tt;
@@ -405,6 +406,7 @@ module _ (X : List ℕ → List ℕ) (N : List ℕ → ℕ) (absent : Bool) (pat
       host = refl;
       gets = tt;
       pins = tt;
+      kept = tt;
       writes = proof-counts path.names X (IsBadLight X N m.told found.root.cid) m b w w2 t1 t2 r done ends own counts;
       cause = shown-after X (IsBadIn X N a.told b.told) (refusal_fault done) a m b calm
           (shown-by X (IsBadLight X N m.told found.root.cid) (IsBadIn X N a.told b.told) (refusal_fault done) m b

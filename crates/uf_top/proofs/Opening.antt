@@ -73,6 +73,7 @@ module _ (X : List ℕ → List ℕ) (N : List ℕ → ℕ) where
       kinds = opening-kinds f why is;
       ready = opening-ready a.told ask path f why is head;
       adds = tt;
+      kept = tt;
       reads = tree-counts (Err why) reads (opening-kinds f why is);
       host = refl;
       rows = tt;
@@ -107,6 +108,7 @@ module _ (X : List ℕ → List ℕ) (N : List ℕ → ℕ) where
           kinds = kinds;
           ready = opened-ready a.told (At ask path) r works.kinds;
           adds = tt;
+          kept = tt;
           reads = tree-counts r reads kinds;
           host = refl;
           rows = works.text;
@@ -156,6 +158,7 @@ module _ (X : List ℕ → List ℕ) (N : List ℕ → ℕ) where
           kinds = kinds;
           ready = init-ready a.told p f why is finds;
           adds = tt;
+          kept = tt;
           reads = init-counts (Err why) reads kinds;
           host = refl;
           rows = tt;
@@ -178,6 +181,7 @@ module _ (X : List ℕ → List ℕ) (N : List ℕ → ℕ) where
       kinds = tt;
       ready = tt;
       adds = tt;
+      kept = tt;
       reads = counts-still reads;
       host = refl;
       rows = nothing;

@@ -466,6 +466,7 @@ module _ (X : List ℕ → List ℕ) (N : List ℕ → ℕ) (ask : PinAsk) (a b 
         host = refl;
         gets = tt;
         pins = (left-undone ask (status_of (pin_refusal f)) a.told b.told quiet.undone (undone-pins X ask a.told b.told writes), unread);
+        kept = tt;
         writes = subst (λ f. RisesFor f w w) (sym quiet.unwritten) (record { rose = λ e. absurd cc; still = λ e. refl });
         cause = shown-by X NoneIsBad (IsBadIn X N a.told b.told) (fault_behind (pin_refusal f)) a b (λ role bytes bad. absurd bad) is.shown;
         whole = λ s needs stands calm. absurd cc;
@@ -526,6 +527,7 @@ module _ (X : List ℕ → List ℕ) (N : List ℕ → ℕ) (ask : PinAsk) (a b 
     host = refl;
     gets = tt;
     pins = (left, tt);
+    kept = tt;
     writes = record { rose = counts.rose; still = counts.still };
     cause = calm;
     whole = λ s needs stands quiet. absurd cc;
@@ -611,6 +613,7 @@ module _ (X : List ℕ → List ℕ) (N : List ℕ → ℕ) (a b : Seen) (l : st
         host = refl;
         gets = tt;
         pins = (ap pins_in same, tt);
+        kept = tt;
         writes = record { rose = c.counts.rose; still = c.counts.still };
         cause = calm;
         whole = λ s needs stands quiet. absurd cc;

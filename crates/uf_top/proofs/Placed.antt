@@ -710,6 +710,7 @@ module _ (X : List ℕ → List ℕ) (N : List ℕ → ℕ) where
     kinds = e.kinds;
     ready = is-ready (Add (adding.InputTo dest)) a.told done (λ why h. h) e.ready;
     adds = ok-more (PrintsFor X N dest None (λ p. SaysInput p l) (input_row X N) a.told d.told) (IsRow X a.told d.told false l) done (input-row dest l a.told d.told) e.rows;
+    kept = tt;
     reads = counts;
     host = refl;
     rows = any-text done;
@@ -738,6 +739,7 @@ module _ (X : List ℕ → List ℕ) (N : List ℕ → ℕ) where
     kinds = e.kinds;
     ready = is-ready (Add (adding.HostTo recursive path dest)) a.told done (λ why h. h) e.ready;
     adds = tt;
+    kept = tt;
     reads = counts-still i;
     host = only;
     rows = ok-more (PrintsFor X N dest (Some path) (λ p. SaysHost X N p side.told recursive path) (λ p. host_text X N p path) a.told d.told) (AreHostRows X N a.told d.told side.told recursive false path) done (host-rows recursive path dest side.told a.told d.told) e.rows;

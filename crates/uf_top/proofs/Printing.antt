@@ -44,6 +44,7 @@ use Rattle.uf_top.specs.Losing.{AnswersOver, DoesOver}
 use Rattle.uf_top.specs.Naming.{FindsOver, NamesIf, NamesAs, StandsIf, StandsNamed, TellsHost}
 use Rattle.uf_top.specs.Shapes.{WritesAs, is_done}
 use Rattle.uf_top.specs.Working.{Does, Makes, SaysText}
+use Rattle.uf_top.proofs.Fronts.{kept-by}
 
 -- ---- which kinds no command that waits has
 
@@ -469,6 +470,7 @@ module _ (X : List ℕ → List ℕ) (N : List ℕ → ℕ) where
           host = takes (is_read {A = Unit {0}} (Err why)) (is_write {A = Unit {0}} (Err why)) mk.host;
           gets = alone-gets command alone (ended {A = Unit {0}} (Err why)) a.told side.told side2.told;
           pins = alone-pins command alone (Err why) a.told b.told;
+          kept = mk.kept;
           writes = rises (is_write {A = Unit {0}} (Err why)) w (subst (λ f. RisesFor f w w) (sym quiet.unwritten) (rises-still w));
           cause = mk.cause;
           whole = λ s needs stands calm. mk.whole s stands calm;
@@ -546,6 +548,7 @@ module _ (X : List ℕ → List ℕ) (N : List ℕ → ℕ) where
           host = takes false false mk.host;
           gets = alone-gets command alone status.Ok a.told side.told side2.told;
           pins = alone-pins command alone (Ok tt) a.told b.told;
+          kept = mk.kept;
           writes = rises false v (record { rose = counts.rose; still = counts.still });
           cause = mk.cause;
           whole = λ s needs stands calm. mk.whole s stands calm;
@@ -598,6 +601,7 @@ module _ (X : List ℕ → List ℕ) (N : List ℕ → ℕ) where
               host = takes false true mk.host;
               gets = alone-gets command alone status.WriteFault a.told side.told side2.told;
               pins = alone-pins command alone (Err refusal.Write) a.told b.told;
+              kept = kept-by X N command status.Ok status.WriteFault a.told b.told side.told l (λ e. cc) (λ e. cc) mk.kept;
               writes = rises true v (record { rose = c.counts.rose; still = c.counts.still });
               cause = mk.cause;
               whole = λ s needs stands calm. (λ e. cc, λ e. cc);

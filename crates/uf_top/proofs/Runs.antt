@@ -14,7 +14,7 @@ use Rattle.uf_top.specs.Running.{Runs, RunsCommand}
 use Rattle.uf_top.specs.Working.{Does, Serves}
 use Rattle.uf_top.proofs.Counted.{counted-of}
 use Rattle.uf_top.proofs.Losses.{lost-told, touches-told}
-use Rattle.uf_top.proofs.Telling.{blamed-told, clashes-told, faults-told, gets-told, good-told, head-told, host-told, idle-told, is-refused, kinds-told, pins-told, prefix-told, prints-told, read-told, replies-told, says-plain, shows, synced-told, told-same, unplaced-told, unprinted-over-told, unprinted-told, unready-told, whole-told, write-told, writes-told}
+use Rattle.uf_top.proofs.Telling.{blamed-told, clashes-told, faults-told, gets-told, good-told, head-told, host-told, idle-told, is-refused, kept-told, kinds-told, pins-told, prefix-told, prints-told, read-told, replies-told, says-plain, shows, synced-told, told-same, unplaced-told, unprinted-over-told, unprinted-told, unready-told, whole-told, write-told, writes-told}
 
 module _ (given : Status) (X : List ℕ → List ℕ) (N : List ℕ → ℕ) (a b : Around) where
   command-told : (command : Command) (done : Result (Unit {0}) Refusal) → Does X N command done a b → IfErr done (ByOwnStore X (own_store command) a.left a.store b.store) → IsOf (may_end command) done → TellsEnd (Said a.errors b.errors) done given
@@ -54,6 +54,7 @@ module _ (given : Status) (X : List ℕ → List ℕ) (N : List ℕ → ℕ) (a 
       host = λ is. host-told a b given X N command done s is;
       gets = gets-told a b given X N command done s t;
       pins = pins-told a b given X N command done s t;
+      kept = kept-told a b given X N command done s t;
     };
     touched = record {
       most = λ p es bytes rows named input heights calm. touches-told a b given X N p es bytes rows command done s named input heights calm;

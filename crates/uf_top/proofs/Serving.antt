@@ -34,6 +34,7 @@ use Rattle.uf_top.specs.Bounds.{command_touches}
 use Rattle.uf_top.specs.Cars.{ByOwnStore}
 use Rattle.uf_top.specs.Shapes.{WritesAs}
 use Rattle.uf_top.specs.Working.{Does, Serves}
+use Rattle.uf_top.proofs.Fronts.{nothing-kept}
 use Rattle.uf_top.proofs.Gotten.{same-below}
 use Rattle.uf_top.proofs.Losing.{names-same}
 use Rattle.uf_top.proofs.Printing.{else-same, nothing-printed, rises-still, keeps-head}
@@ -168,6 +169,7 @@ module _ (X : List ℕ → List ℕ) (N : List ℕ → ℕ) (a : Around) (er2 : 
     host = still-host command;
     gets = nothing-gotten command a.store.told a.host.told;
     pins = nothing-pinned command a.store.told;
+    kept = nothing-kept X N command status.Memory a.store.told a.host.told a.left (λ e. cc);
     writes = still-written command;
     cause = calm-memory a.store a.store (StaysCalm-refl a.store);
     whole = λ s needs stands calm. (λ e. cc, λ e. cc);

@@ -42,7 +42,7 @@ use Rattle.uf_top.specs.Around.{AllWritten, Around, CountsCanRise, HasOutside, H
 use Rattle.uf_top.specs.Cars.{ByOwnStore, IsClashing, IsMissing, IsOwnClash, LacksSection}
 use Rattle.uf_top.specs.Caused.{StatusShows}
 use Rattle.uf_top.specs.Causes.{IsBadIn, IsSynced, is_read, is_write, KeepsHead}
-use Rattle.uf_top.specs.Endings.{EndsAs, EndsBy, FindsAll, IsRefusedBy, IsSyncedFor, IsTextOf, PinsUnread, PrintsAll, PrintsAt, PrintsPart, SaysPlain, may_move}
+use Rattle.uf_top.specs.Endings.{EndsAs, EndsBy, FindsAll, IsRefusedBy, IsSyncedFor, IsTextOf, KeptFor, PinsUnread, PrintsAll, PrintsAt, PrintsPart, SaysPlain, may_move}
 use Rattle.uf_command.specs.Telling.{TellsEnd, TellsWhy, has_details}
 use Rattle.uf_top.specs.Getting.{GetsFor, LeavesAt}
 use Rattle.uf_top.specs.Naming.{FindsOver, FindsWorld, StandsIf, StandsNamed, StaysNamed}
@@ -50,6 +50,7 @@ use Rattle.uf_top.specs.Pins.{PinsAfter, PinsFor, PinsLeft}
 use Rattle.uf_top.specs.Placing.{HasNoSpot}
 use Rattle.uf_top.specs.Shapes.{SyncsAfter, WritesAs, is_done}
 use Rattle.uf_top.specs.Working.{Does}
+use Rattle.uf_top.proofs.Fronts.{kept-by}
 use Rattle.uf_top.proofs.Pins.{pins-after}
 use Rattle.uf_top.proofs.Shows.{blaming-of}
 use Rattle.uf_top.proofs.Standings.{stands-kept}
@@ -172,7 +173,7 @@ plain-of (refusal.Store (fault.Clash cid first second)) e = absurd cc
 plain-of (refusal.Store fault.Memory) e = refl
 
 -- no refusal ends as Ok, and one that ends as a failed write is that
-not-ok : (why : Refusal) → status_of why ≡ status.Ok → ⊥
+pub not-ok : (why : Refusal) → status_of why ≡ status.Ok → ⊥
 not-ok (refusal.Rule rule) e = cc
 not-ok (refusal.Dag rule) e = cc
 not-ok (refusal.Car number place) e = cc
@@ -661,6 +662,13 @@ module _ (a b : Around) where
       pins-told command (Err why) s (inr t) =
           subst (λ g. PinsAfter (Ok command) g a.store.told b.store.told) (sym t.1)
           (by-pins command (Err no_memory) (detailed-pins command why a.store.told b.store.told t.0 s.pins) (subst (λ d. WritesAs X (command_writes command) d a.store.told b.store.told) (detailed-undone (status_of why) t.0) s.leaves.writes))
+
+      -- what was added of what was read
+      pub kept-told : (command : Command) (done : Result (Unit {0}) Refusal) → Does X N command done a b → TellsEnd Says done given → KeptFor X N command given a.store.told b.store.told a.host.told a.left
+      kept-told command (Ok done) s t = subst (λ g. KeptFor X N command g a.store.told b.store.told a.host.told a.left) (sym t.0) s.kept
+      kept-told command (Err why) s (inl t) = subst (λ g. KeptFor X N command g a.store.told b.store.told a.host.told a.left) (sym t.0) s.kept
+      kept-told command (Err why) s (inr t) =
+          subst (λ g. KeptFor X N command g a.store.told b.store.told a.host.told a.left) (sym t.1) (kept-by X N command (status_of why) status.Memory a.store.told b.store.told a.host.told a.left (λ e. cc) (λ e. cc) s.kept)
 
       -- ---- no block is called bad before one was touched
 

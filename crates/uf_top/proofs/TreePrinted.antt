@@ -138,6 +138,7 @@ module _ (X : List ℕ → List ℕ) (N : List ℕ → ℕ) (n seed : ℕ) (s : 
         host = refl;
         gets = tt;
         pins = tt;
+        kept = tt;
         writes = subst (λ f. RisesFor f w w) (sym quiet.unwritten) (rises-still w);
         cause = of.cause;
         whole = λ s needs stands calm. absurd cc;
@@ -191,6 +192,7 @@ module _ (X : List ℕ → List ℕ) (N : List ℕ → ℕ) (n seed : ℕ) (s : 
       host = refl;
       gets = tt;
       pins = tt;
+      kept = tt;
       writes = record { rose = counts.rose; still = counts.still };
       cause = StaysCalm-refl s;
       whole = λ s needs stands calm. absurd cc;
@@ -223,6 +225,7 @@ module _ (X : List ℕ → List ℕ) (N : List ℕ → ℕ) (n seed : ℕ) (s : 
       host = refl;
       gets = tt;
       pins = tt;
+      kept = tt;
       writes = record { rose = c.counts.rose; still = c.counts.still };
       cause = StaysCalm-refl s;
       whole = λ s needs stands calm. absurd cc;

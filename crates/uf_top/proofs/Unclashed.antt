@@ -17,6 +17,7 @@ use Rattle.uf_top.specs.Around.{Around}
 use Rattle.uf_top.specs.Cars.{ByOwnStore}
 use Rattle.uf_top.specs.Causes.{KeepsHead}
 use Rattle.uf_top.specs.Working.{Does}
+use Rattle.uf_top.proofs.Fronts.{kept-by}
 use Rattle.uf_top.proofs.Shows.{not-rose}
 use Rattle.uf_top.proofs.Telling.{detailed-gets, detailed-pins}
 
@@ -41,6 +42,7 @@ module _ (X : List ℕ → List ℕ) (N : List ℕ → ℕ) (command : Command) 
     host = h.host;
     gets = detailed-gets a b status.Ok X N command a.store.told a.host.told b.host.told status.Clash refl h.gets;
     pins = detailed-pins command (refusal.Store (fault.Clash cid first second)) a.store.told b.store.told refl h.pins;
+    kept = kept-by X N command status.Clash status.Memory a.store.told b.store.told a.host.told a.left (λ e. cc) (λ e. cc) h.kept;
     writes = h.writes;
     cause = record { finds = h.cause.rises.finds; misses = h.cause.rises.misses; faults = h.cause.faults; clashes = h.cause.rises.clashes };
     whole = λ s needs stands calm. (λ e. cc, λ e. cc);

@@ -147,6 +147,7 @@ module _ (how : WriteHow) (path : Path) where
         kinds = tree-taken r mk.kinds;
         ready = ready-taken a.told piece r mk.ready;
         adds = not-long r l k mk.kinds;
+        kept = tt;
         reads = subst (λ n. Counts (is_read r) i n) (sym (counts.still refl)) mk.reads;
         host = refl;
         rows = mk.rows;
@@ -313,6 +314,7 @@ module _ (how : WriteHow) (path : Path) where
         kinds = taken-kinds why takes;
         ready = taken-ready why takes;
         adds = taken-long why takes;
+        kept = tt;
         reads = counts;
         host = refl;
         rows = tt;
@@ -337,6 +339,7 @@ module _ (how : WriteHow) (path : Path) where
         kinds = tree-taken (Err why) (opening-kinds f why is);
         ready = ready-taken a.told [] (Err why) (opening-ready a.told (Edits (Write how [])) path f why is head);
         adds = not-long (Err why) l l (opening-kinds f why is);
+        kept = tt;
         reads = tree-counts (Err why) i (opening-kinds f why is);
         host = refl;
         rows = tt;

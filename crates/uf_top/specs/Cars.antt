@@ -1,20 +1,22 @@
 -- What becomes of a CAR that is read into the store, or with which what the store holds is compared.
-use Rattle.std.specs.Prelude.{◌≡◌, ◌⊎◌, ℕ, List, [], ◌∷◌, false, IfErr, IfOk, IfSome, ⊤}
+use Rattle.std.specs.Prelude.{◌≡◌, ◌⊎◌, ℕ, ◌≤◌, List, [], ◌∷◌, length, take, false, IfErr, IfOk, IfSome, ⊤}
 use Rattle.std.specs.declared.option.Option.TheVariants.{None, Some}
 use Rattle.std.specs.declared.result.Result.{Result}
 use Rattle.std.specs.declared.result.Result.TheVariants.{Ok, Err}
 use Rattle.uf_car.specs.Clashing.{HasTwo, sections_clash, sections_held}
 use Rattle.uf_car.specs.Importing.{with_saves}
 use Rattle.uf_car.specs.Reading.{Read, car_read}
-use Rattle.uf_cid.specs.Blocks.{IsClash, Lookup}
+use Rattle.uf_cid.specs.Blocks.{Held, IsClash, Lookup}
 use Rattle.uf_cid.specs.declared.cid.Cid.{Cid}
 use Rattle.uf_edge.specs.Counts.{Counts, Stood}
 use Rattle.uf_edge.specs.Streams as streams
-use Rattle.uf_mfs.specs.Standing.{TellsHeld}
+use Rattle.uf_mfs.specs.Standing.{LeavesHead, TellsHeld}
 use Rattle.uf_command.specs.Cars.{most_blocks, most_car, roots_told}
 use Rattle.uf_command.specs.Natures.{OwnStore, NoStore, OfCarSections, OfTree, SyncsBlocks}
 use Rattle.uf_command.specs.Kinds.{IsOf, same_kinds, import_kinds, may_meet, refusal_fault}
-use Rattle.uf_command.specs.Statuses.{no_memory}
+use Rattle.uf_command.specs.Statuses.{ended, no_memory}
+use Rattle.uf_command.specs.declared.status.Status.{Status}
+use Rattle.uf_command.specs.declared.status.Status.TheVariants as status
 use Rattle.uf_command.specs.declared.types.Refusal.{Refusal}
 use Rattle.uf_command.specs.declared.types.Refusal.TheVariants as refusal
 use Rattle.uf_store.specs.Calls.{Calm}
@@ -45,6 +47,18 @@ pub record AddsCar (X : List ℕ → List ℕ) (bytes text : List ℕ) (before n
 abbrev pub IsImported : (List ℕ → List ℕ) → (before now : Told) → streams.Told → List ℕ → Type 0
 IsImported X before now left text = IfSome left (λ bytes. AddsCar X bytes text before now)
 
+-- the first of these sections, and no other block, were added, and at most made durable: all where a rule refuses
+pub record AddsFront (sections : List Held) (given : Status) (before now : Told) : Type 0 where
+  pub count : ℕ
+  pub few : count ≤ length sections
+  pub added : LeavesHead (changed (with_saves (take count sections)) before) now
+  pub all : given ≡ status.Rule → count ≡ length sections
+
+-- so of the CAR that an input has, where it tells, also where the command is refused
+abbrev pub KeepsFront : (List ℕ → List ℕ) → Status → (before now : Told) → streams.Told → Type 0
+KeepsFront X given before now left =
+    IfSome left (λ bytes. AddsFront (car_read X most_car bytes).sections given before now)
+
 -- how a CAR was kept: its roots, each refusal with its cause, and what was written
 pub record KeepsCar (X : List ℕ → List ℕ) (done : Result (List ℕ) Refusal) (before now : Seen) (left : streams.Told)
     (reads reads_now : ℕ) : Type 0 where
@@ -52,6 +66,7 @@ pub record KeepsCar (X : List ℕ → List ℕ) (done : Result (List ℕ) Refusa
       → Stood reads reads_now → Calm before now
       → (done ≡ Err no_memory) ⊎ TellsRoots (car_read X most_car bytes) done now.told
   pub added : IfOk done (IsImported X before.told now.told left)
+  pub kept : KeepsFront X (ended done) before.told now.told left
   pub kinds : IsOf (may_meet import_kinds) done
   pub counts : Counts (is_read done) reads reads_now
   pub cause : Shown X NoneIsBad (refusal_fault done) before now

@@ -13,13 +13,14 @@ use Rattle.uf_edge.specs.Streams.{before, Exceeds, IsWhole}
 use Rattle.uf_edge.specs.Streams as streams
 use Rattle.uf_fileread.specs.Bad.{IsBadInFile}
 use Rattle.uf_mfs.specs.Bad.{IsBadInHead, IsHeadTold}
-use Rattle.uf_mfs.specs.Standing.{head_in}
+use Rattle.uf_mfs.specs.Standing.{LeavesHead, head_in}
 use Rattle.uf_mfs.specs.declared.fault.MfsFault.{MfsFault}
 use Rattle.uf_mfs.specs.declared.fault.MfsFault.TheVariants as mfs
 use Rattle.uf_plain.specs.declared.ready.Ready.{Ready}
 use Rattle.uf_plain.specs.declared.ready.Ready.TheVariants as ready
 use Rattle.uf_plain.specs.declared.rule.Rule.TheVariants.{FileTooLong}
 use Rattle.uf_store.specs.declared.store.Role.{Role}
+use Rattle.uf_store.specs.Among.{SavesAmong}
 use Rattle.uf_store.specs.Clashes.{IsSaving}
 use Rattle.uf_store.specs.declared.store.StoreFault.TheVariants.{Memory}
 use Rattle.uf_store.specs.declared.store.Write.{Write}
@@ -164,6 +165,12 @@ AddsBy only_hash (Some text) p = HeadSays (Some text) p
 abbrev pub HoldsUnless : (only_hash : Bool) → Told → List Held → Type 0
 HoldsUnless true now blocks = ⊤
 HoldsUnless false now blocks = Holds now blocks
+
+-- nothing was added but some of these blocks, and they were at most made durable then
+pub record AddsAmong (hash : List ℕ → List ℕ) (blocks : List Held) (before now : Told) : Type 0 where
+  pub between : Told
+  pub among : SavesAmong hash blocks before between
+  pub last : LeavesHead between now
 
 -- the row of some input as a file by that profile, whose blocks are held
 pub record IsRow (hash : List ℕ → List ℕ) (told now : Told) (only_hash : Bool) (left : streams.Told)

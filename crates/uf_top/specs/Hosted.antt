@@ -1,10 +1,13 @@
 -- What becomes of what a host has at a path, where it is added.
-use Rattle.std.specs.Prelude.{◌≡◌, ℕ, List, [], Bool, false, IfSome, IsTrue, None, ⊤}
+use Rattle.std.specs.Prelude.{◌≡◌, ◌⊎◌, ℕ, List, [], ◌∷◌, Bool, false, IfSome, IsTrue, None, ⊤}
+use Rattle.std.specs.List.{flat_map}
 use Rattle.std.specs.declared.result.Result.{Result}
 use Rattle.std.specs.declared.result.Result.TheVariants.{Ok, Err}
-use Rattle.uf_edge.specs.Host.{HostTold}
+use Rattle.uf_edge.specs.Host.{HostTold, HostTree}
 use Rattle.uf_host.specs.Adding.{HasHeldPlan, IsSaid}
 use Rattle.uf_host.specs.HostTree.{tree_on_host}
+use Rattle.uf_host.specs.Paths.{trimmed}
+use Rattle.uf_host.specs.Stopping.{HasRead, levels_of}
 use Rattle.uf_host.specs.declared.fault.HostFault.{HostFault}
 use Rattle.uf_host.specs.declared.fault.HostFault.TheVariants as fault
 use Rattle.uf_store.specs.Clashes.{IsSaving}
@@ -12,12 +15,14 @@ use Rattle.uf_store.specs.Contents.{Told}
 use Rattle.uf_tree.specs.Tree.{Tree, is_tree}
 use Rattle.uf_tree.specs.TreePlan as plan
 use Rattle.uf_tree.specs.declared.profile.Profile.{Profile}
+use Rattle.uf_command.specs.declared.status.Status.{Status}
+use Rattle.uf_command.specs.declared.status.Status.TheVariants as status
 use Rattle.uf_command.specs.declared.types.Command.{Command}
 use Rattle.uf_command.specs.declared.types.Command.TheVariants.{Init, Add, WriteInput, At}
 use Rattle.uf_command.specs.declared.types.Adding.TheVariants as adding
 use Rattle.uf_command.specs.declared.types.Refusal.{Refusal}
 use Rattle.uf_command.specs.declared.types.Refusal.TheVariants as refusal
-use Rattle.uf_top.specs.Causes.{AddsBy, HoldsUnless, IsAskText}
+use Rattle.uf_top.specs.Causes.{AddsAmong, AddsBy, HoldsUnless, IsAskText, IsProfileOf}
 use Rattle.uf_top.specs.HostTexts.{host_refusal, host_text}
 
 -- the fault is none of a reading of a DAG
@@ -65,6 +70,29 @@ module _ (X : List ℕ → List ℕ) (N : List ℕ → ℕ) where
     pub said : IsSaid host (λ h. tree_on_host X N profile h recursive path) (Ok tree)
     pub is : text ≡ host_text X N profile path tree
     pub held : HoldsUnless only_hash now (plan.blocks X N profile tree)
+
+  -- these are the tree that a host has at a path, alone
+  abbrev pub IsTreeAt : Profile → Bool → List ℕ → List Tree → HostTree → Type 0
+  IsTreeAt p recursive path trees host =
+      (t : Tree) × (tree_on_host X N p host recursive path ≡ Ok t) × (trees ≡ t ∷ [])
+
+  -- they are that tree, or what a walk has read of the path where it stopped
+  abbrev pub AreReadAt : Profile → Bool → List ℕ → List Tree → HostTree → Type 0
+  AreReadAt p recursive path trees host =
+      IsTreeAt p recursive path trees host ⊎ HasRead X N p host (levels_of recursive) (trimmed path) trees
+
+  -- nothing was added but blocks of what was read of a path of the host, which at Ok is the tree that is there
+  pub record AddsTrees (given : Status) (p : Profile) (told now : Told) (host : HostTold) (recursive : Bool)
+      (path : List ℕ) : Type 0 where
+    pub trees : List Tree
+    pub are : IfSome host (AreReadAt p recursive path trees)
+    pub whole : given ≡ status.Ok → IfSome host (IsTreeAt p recursive path trees)
+    pub adds : AddsAmong X (flat_map (plan.blocks X N p) trees) told now
+
+  -- the same by the profile of the Head; or nothing was added, as where the Head is refused
+  abbrev pub KeepsTrees : Status → (told now : Told) → HostTold → Bool → List ℕ → Type 0
+  KeepsTrees given told now host recursive path =
+      (now ≡ told) ⊎ ((p : Profile) × IsProfileOf told p × AddsTrees given p told now host recursive path)
 
   -- the text of a command that adds from the host is these rows, and `init` and edits have none; of another command
   -- nothing is said

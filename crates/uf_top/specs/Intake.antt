@@ -1,5 +1,5 @@
 -- The row of an input that is read as a file.
-use Rattle.std.specs.Prelude.{◌≡◌, ℕ, ◌≤◌, List, length, ⊤}
+use Rattle.std.specs.Prelude.{◌≡◌, ◌⊎◌, ℕ, ◌≤◌, List, length, ⊤}
 use Rattle.std.specs.declared.result.Result.{Result}
 use Rattle.std.specs.declared.result.Result.TheVariants.{Ok, Err}
 use Rattle.uf_edge.specs.Streams.{Told, before, IsAtEnd}
@@ -22,6 +22,7 @@ use Rattle.uf_command.specs.declared.types.Refusal.TheVariants as refusal
 use Rattle.uf_command.specs.Lines.{added_line}
 use Rattle.uf_command.specs.Kinds.{refusal_fault}
 use Rattle.uf_command.specs.Statuses.{no_memory}
+use Rattle.uf_top.specs.Causes.{AddsAmong, AreLeft, IsProfileOf}
 use Rattle.uf_top.specs.Reply.{file_cid}
 use Rattle.uf_top.specs.declared.given.Given.{Given}
 
@@ -50,6 +51,17 @@ pub record IsWholeRow (hash : List ℕ → List ℕ) (p : Profile) (told_now : s
 abbrev pub IsRowOf : (List ℕ → List ℕ) → Profile → store.Told → Result (List ℕ) Refusal → Told → Told → Type 0
 IsRowOf hash p told_now (Ok text) left left_now = IsWholeRow hash p told_now text left left_now
 IsRowOf hash p told_now (Err why) left left_now = IsStopped (PassesMost p left left_now) why
+
+-- nothing was added but blocks of the file of all bytes of the input
+pub record AddsFile (hash : List ℕ → List ℕ) (p : Profile) (told told_now : store.Told) (left : Told) : Type 0 where
+  pub bytes : List ℕ
+  pub are_left : AreLeft left bytes
+  pub adds : AddsAmong hash (file_plan hash p none bytes).blocks told told_now
+
+-- the same by the profile of the Head; or nothing was added, as where the Head is refused
+abbrev pub KeepsFile : (List ℕ → List ℕ) → (told told_now : store.Told) → Told → Type 0
+KeepsFile hash told told_now left =
+    (told_now ≡ told) ⊎ ((p : Profile) × IsProfileOf told p × AddsFile hash p told told_now left)
 
 -- why no file was made of the input, as a refusal
 abbrev pub intake_refusal : IntakeFault → Refusal

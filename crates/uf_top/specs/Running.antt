@@ -19,7 +19,8 @@ use Rattle.uf_top.specs.Answering.{LeavesNext}
 use Rattle.uf_top.specs.Around.{Around, CountsCanRise, HasOutside, LeavesAlone, NoneFalls, SameButErrors, StaysQuiet}
 use Rattle.uf_top.specs.Bounds.{command_touches}
 use Rattle.uf_top.specs.Caused.{StatusShows}
-use Rattle.uf_top.specs.Endings.{EndsAs, FindsAll, IsRefusedBy, IsSyncedFor, IsTextOf, PrintsAt, PrintsPart, SaysPlain, may_move}
+use Rattle.uf_top.specs.Endings.{EndsAs, FindsAll, IsRefusedBy, IsSyncedFor, IsTextOf, KeptFor}
+use Rattle.uf_top.specs.Endings.{PrintsAt, PrintsPart, SaysPlain, may_move}
 use Rattle.uf_top.specs.Getting.{GetsFor}
 use Rattle.uf_top.specs.Losing.{EndsOver, command_needs}
 use Rattle.uf_top.specs.Pins.{PinsAfter}
@@ -66,7 +67,9 @@ module _ (X : List ℕ → List ℕ) (N : List ℕ → ℕ) where
   -- which only the output failed, and some commands leave all as it was; so does an edit that has nothing to do. What
   -- needs a Head and isn't ready has written nothing and read nothing of the input, and so it is where the tree that
   -- the Head names has no spot for what `add --to-files` adds. Of the host `get` alone changes anything, also where it
-  -- is refused or stopped. `pin add` and `pin rm` that are done move the note of pins, and whatever else leaves it
+  -- is refused or stopped. `pin add` and `pin rm` that are done move the note of pins, and whatever else leaves it.
+  -- `dag import` adds first sections of its CAR, `add` without `--to-files` blocks of what it reads, and each no others,
+  -- also where it is refused
   pub record LeavesRight (command : Command) (given : Status) (before now : Around) : Type 0 where
     pub writes : WritesAs X (command_writes command) (is_done given) before.store.told now.store.told
     pub good : KeepsGood X before.store.told now.store.told
@@ -83,6 +86,7 @@ module _ (X : List ℕ → List ℕ) (N : List ℕ → ℕ) where
     pub host : writes_host command ≡ false → now.host.told ≡ before.host.told
     pub gets : GetsFor command given before.store.told before.host.told now.host.told
     pub pins : PinsAfter (Ok command) given before.store.told now.store.told
+    pub kept : KeptFor X N command given before.store.told now.store.told before.host.told before.left
 
   -- the commands that work on a tree keep within their touches, also where they are refused, and no block is called
   -- bad before one was touched

@@ -39,7 +39,7 @@ use Rattle.uf_top.specs.Around.{TakesHost, UsesHost}
 use Rattle.uf_top.specs.Around.{is_input_read, is_output_write}
 use Rattle.uf_top.specs.Bounds.{ask_touches, command_touches}
 use Rattle.uf_top.specs.Causes.{HeadStays, IsAskText, IsBadIn, IsReady, KeepsHead, is_read, is_write}
-use Rattle.uf_top.specs.Endings.{AddsFor, FindsAll, IsTextOf, PrintsAt, PrintsPart, RuleOf}
+use Rattle.uf_top.specs.Endings.{AddsFor, FindsAll, IsTextOf, PrintsAt, PrintsPart, RuleOf, KeptFor}
 use Rattle.uf_top.specs.Getting.{GetsFor}
 use Rattle.uf_top.specs.Hosted.{IsHostedText}
 use Rattle.uf_top.specs.Losing.{AnswersOver, DoesOver, ask_needs, command_needs}
@@ -77,6 +77,7 @@ module _ (X : List ℕ → List ℕ) (N : List ℕ → ℕ) where
     pub reads : Counts (is_input_read command done) before.reads now.reads
     pub host : UsesHost (uses_host command) (is_read done) before.host now.host
     pub rows : IfOk done (λ text. IsHostedText X N before.store.told now.store.told before.host.told command text)
+    pub kept : KeptFor X N command (ended done) before.store.told now.store.told before.host.told before.left
     pub cause : Shown X (IsBadIn X N before.store.told now.store.told) (refusal_fault done) before.store now.store
     pub whole : (standing : Standing) → TellsAs X N before.store.told standing → Calm before.store now.store
         → FindsAll (ended done)
@@ -140,6 +141,7 @@ module _ (X : List ℕ → List ℕ) (N : List ℕ → ℕ) where
     pub host : TakesHost (writes_host command) (uses_host command) (is_read done) (is_write done) before.host now.host
     pub gets : GetsFor command (ended done) before.store.told before.host.told now.host.told
     pub pins : PinsFor command done before.store.told now.store.told
+    pub kept : KeptFor X N command (ended done) before.store.told now.store.told before.host.told before.left
     pub writes : RisesFor (is_output_write command done) before.writes now.writes
     pub cause : Shown X (IsBadIn X N before.store.told now.store.told) (refusal_fault done) before.store now.store
     pub whole : (standing : Standing) → reads_tree_alone command ≡ true → TellsAs X N before.store.told standing

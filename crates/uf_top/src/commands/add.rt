@@ -7,7 +7,7 @@ ghost use Rattle.uf_store.specs.Keeping.{KeepsGood};
 ghost use Rattle.uf_tree.specs.Profiles.{is_profile};
 ghost use Rattle.uf_command.specs.Natures.{SyncsBlocks};
 ghost use Rattle.uf_top.specs.Causes.{IsProfileRead, OnlyWants, ReadsProfile, Stops, is_read, or_usual as usual_or};
-ghost use Rattle.uf_top.specs.Intake.{GivesEntry, IsRowOf, ShownIn};
+ghost use Rattle.uf_top.specs.Intake.{AddsFile, GivesEntry, IsRowOf, ShownIn};
 ghost use Rattle.uf_top.specs.Lent.{OverInput};
 ghost use Rattle.uf_top.specs.Shapes.{WritesAs, is_ok};
 ghost use Rattle.uf_top.specs.Working.{Makes};
@@ -107,6 +107,8 @@ fn add_by<S: Store, I: Source, L: Ledger>(
     ensures cause { ShownIn S.X.block32 result (S.seen store.old) (S.seen store.new) }
     ensures good { KeepsGood S.X.block32 (S.seen store.old).told (S.seen store.new).told }
     ensures writes { WritesAs S.X.block32 SyncsBlocks (is_ok result) (S.seen store.old).told (S.seen store.new).told }
+    ensures no_other { AddsFile S.X.block32 profile (S.seen store.old).told (S.seen store.new).told
+        (I.left input.old) }
 {
     let given = file_given(alloc, file_of(alloc, profile, store, input, touches))?;
     synced(store, given.text)

@@ -2,13 +2,14 @@
 ghost use Rattle.std.specs.Prelude.{◌≡◌, ℕ, false, true, None, IfErr, IfOk, IsTrue};
 ghost use Rattle.std.specs.List.{flat_map};
 ghost use Rattle.uf_command.specs.Natures.{SyncsBlocks};
+ghost use Rattle.uf_command.specs.Statuses.{ended};
 ghost use Rattle.uf_command.specs.declared.types.Command.TheVariants as commands;
 ghost use Rattle.uf_command.specs.declared.types.Adding.TheVariants as adding;
 ghost use Rattle.uf_store.specs.Keeping.{KeepsGood};
 ghost use Rattle.uf_top.specs.Around.{OnlyReadsHost};
 ghost use Rattle.uf_top.specs.Lent.{OverHost, side_at};
 ghost use Rattle.uf_top.specs.Causes.{OnlyWants, is_read};
-ghost use Rattle.uf_top.specs.Hosted.{IsNoReading, MakesHostText};
+ghost use Rattle.uf_top.specs.Hosted.{AddsTrees, IsNoReading, MakesHostText};
 ghost use Rattle.uf_top.specs.HostTexts.{host_refusal, host_row};
 ghost use Rattle.uf_top.specs.Intake.{ShownIn};
 ghost use Rattle.uf_top.specs.Placing.{GivesHost, HasLast, IsLastEntry};
@@ -85,6 +86,8 @@ fn keep_by<S: Store, N: NameHash, W: Host, L: Ledger>(
     ensures cause { ShownIn S.X.block32 result (S.seen store.old) (S.seen store.new) }
     ensures good { KeepsGood S.X.block32 (S.seen store.old).told (S.seen store.new).told }
     ensures writes { WritesAs S.X.block32 SyncsBlocks (is_ok result) (S.seen store.old).told (S.seen store.new).told }
+    ensures no_other { AddsTrees S.X.block32 N.name64 (ended result) profile (S.seen store.old).told
+        (S.seen store.new).told (W.tree host.old) recursive path.now }
 {
     let own = path.copy()?;
     let text = path.as_str();

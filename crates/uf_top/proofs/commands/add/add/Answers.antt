@@ -21,4 +21,4 @@ returns-in-Some g c = λ N h w side er er2.
     let e = c.add_by.ensures in
     is-added g.S.X.BlockHash.block32 (record { size = g.met.S.X.BlockHash.size; are_bytes = g.met.S.X.BlockHash.are_bytes }) N (g.S.Store.seen c.args.store.now) (g.S.Store.seen c.head_profile.new.store) c.head_profile.ensures.told (g.I.Source.left c.args.input.now) (g.I.Source.faults c.args.input.now) h w c.args.touches.now side er er2 c.in_ok-head_profile.ensures.cause
     c.add_by.result (g.I.Source.left c.add_by.new.input) (g.I.Source.faults c.add_by.new.input) e.counts c.in-Some.profile (g.S.Store.seen c.add_by.new.store) c.add_by.new.touches
-    (subst (λ found. IfSome (g.S.Store.seen c.args.store.now).told (λ t. IsProfileIn found t.notes.head)) c.in-Some.is c.in_ok-head_profile.ensures.read) e.row e.cause e.good e.writes
+    (subst (λ found. IfSome (g.S.Store.seen c.args.store.now).told (λ t. IsProfileIn found t.notes.head)) c.in-Some.is c.in_ok-head_profile.ensures.read) e.row e.cause e.good e.writes e.no_other

@@ -1,9 +1,11 @@
-use Rattle.std.proofs.Common.{Ok, Err}
+use Rattle.std.proofs.Common.{Ok, Err, refl}
 use Rattle.std.proofs.lemmas.Result.{err_from_is_err_and}
 use Rattle.uf_command.specs.Kinds.{refusal_fault}
+use Rattle.uf_mfs.specs.Standing.{Same}
 use Rattle.uf_store.specs.Faults.{NoneIsBad}
 use Rattle.uf_store.proofs.Calls.{shown-after}
 use Rattle.uf_top.proofs.Givens.{entry-counts, entry-row, entry-shown, entry-synced, synced-counts}
+use Rattle.uf_top.proofs.Plans.{file-kept, synced-leaves}
 use Rattle.uf_top.proofs.commands.add.add_by.Goals as goal
 
 pub returns-in_err-given-clause-row : goal.returns-in_err-given-clause-row
@@ -37,3 +39,14 @@ returns-clause-cause g c =
     let a = g.S.Store.seen c.args.store.now in let m = g.S.Store.seen c.file_of.new.store in let b = g.S.Store.seen c.synced.new.store in
     shown-after g.S.X.BlockHash.block32 NoneIsBad (refusal_fault c.synced.result) a m b
     (entry-shown g.S.X.BlockHash.block32 a m c.file_of.result (Ok c.in_ok-given.given) c.in_ok-given.ensures c.file_of.ensures.cause) c.synced.ensures.cause
+
+pub returns-in_err-given-clause-no_other : goal.returns-in_err-given-clause-no_other
+returns-in_err-given-clause-no_other g c =
+    let m = (g.S.Store.seen c.file_of.new.store).told in
+    file-kept g.S.X.BlockHash.block32 c.args.profile (g.S.Store.seen c.args.store.now).told m m (g.I.Source.left c.args.input.now) (g.I.Source.left c.file_of.new.input) c.file_of.result c.file_of.ensures.no_other (Same refl)
+
+pub returns-clause-no_other : goal.returns-clause-no_other
+returns-clause-no_other g c =
+    let m = (g.S.Store.seen c.file_of.new.store).told in let b = (g.S.Store.seen c.synced.new.store).told in
+    file-kept g.S.X.BlockHash.block32 c.args.profile (g.S.Store.seen c.args.store.now).told m b (g.I.Source.left c.args.input.now) (g.I.Source.left c.file_of.new.input) c.file_of.result c.file_of.ensures.no_other
+    (synced-leaves c.synced.result m b c.synced.ensures.synced c.synced.ensures.failed)

@@ -1,8 +1,9 @@
 use Rattle.std.proofs.Common.{ℕ, List, Ok, Err, refl, subst}
 use Rattle.std.proofs.lemmas.Result.{err_from_is_err_and}
-use Rattle.uf_host.specs.Adding.{AddsFromHost}
+use Rattle.uf_host.specs.Adding.{AddsFromHost, SavesFromHost}
 use Rattle.uf_mfs.specs.Standing.{Same}
 use Rattle.uf_command.specs.Kinds.{refusal_fault}
+use Rattle.uf_command.specs.Statuses.{ended, status_of}
 use Rattle.uf_store.specs.Faults.{NoneIsBad}
 use Rattle.uf_store.proofs.Calls.{shown-after}
 use Rattle.uf_store.proofs.Writing.{SavesOnly-refl}
@@ -10,6 +11,8 @@ use Rattle.uf_top.specs.Around.{host_side}
 use Rattle.uf_top.specs.Placing.{GivesHost}
 use Rattle.uf_top.proofs.Givens.{last-there, no-reading, rows-read, rows-shown, rows-text}
 use Rattle.uf_top.proofs.Hosts.{synced-reads, synced-text}
+use Rattle.uf_top.proofs.Plans.{none-kept, rows-kept, synced-leaves}
+use Rattle.uf_top.proofs.Telling.{not-ok}
 use Rattle.uf_top.proofs.commands.add_from.keep_by.Goals as goal
 
 pub rows_given-requires : goal.rows_given-requires
@@ -74,3 +77,25 @@ returns-clause-cause g c =
     let a = g.S.Store.seen c.args.store.now in let m = g.S.Store.seen c.add-answer.new.store in let b = g.S.Store.seen c.synced.new.store in
     shown-after X NoneIsBad (refusal_fault c.synced.result) a m b
     (rows-shown c.in_ok-own.own X a m r (Ok c.in_ok-given.given) c.in_ok-given.ensures (no-reading c.args.path.now X N c.args.profile told tells c.args.recursive r adds) c.add-answer.ensures.cause) c.synced.ensures.cause
+
+pub returns-in_err-own-clause-no_other : goal.returns-in_err-own-clause-no_other
+returns-in_err-own-clause-no_other g c =
+    let out = err_from_is_err_and c.from_residual.result c.from_residual.ensures.1 in
+    rw out.1 (none-kept g.S.X.BlockHash.block32 g.N.NameHash.name64 (status_of out.0) c.args.profile (g.S.Store.seen c.args.store.now).told (g.W.Host.tree c.args.host.now) c.args.recursive c.args.path.now (not-ok out.0))
+
+pub returns-in_err-given-clause-no_other : goal.returns-in_err-given-clause-no_other
+returns-in_err-given-clause-no_other g c =
+    let X = g.S.X.BlockHash.block32 in let N = g.N.NameHash.name64 in let tells = g.W.Host.tree c.args.host.now in let r = c.add-answer.result in
+    let a = (g.S.Store.seen c.args.store.now).told in let m = (g.S.Store.seen c.add-answer.new.store).told in
+    let saves = subst (λ (q : List ℕ). SavesFromHost X N c.args.profile a m tells c.args.recursive q r) c.as_str-text.ensures c.add-answer.ensures.no_other in
+    let gives = subst (λ (q : List ℕ). GivesHost q r (Err c.in_err-given.field-0.0)) c.in_ok-own.ensures c.in_err-given.ensures in
+    let out = err_from_is_err_and c.from_residual-in_err-given.result c.from_residual-in_err-given.ensures.1 in
+    rw (out.1, out.2) (rows-kept X N c.args.profile a m m tells c.args.recursive c.args.path.now r (Err c.in_err-given.field-0.0) (status_of c.in_err-given.field-0.0) gives (λ why e. not-ok c.in_err-given.field-0.0) saves (Same refl))
+
+pub returns-clause-no_other : goal.returns-clause-no_other
+returns-clause-no_other g c =
+    let X = g.S.X.BlockHash.block32 in let N = g.N.NameHash.name64 in let tells = g.W.Host.tree c.args.host.now in let r = c.add-answer.result in
+    let a = (g.S.Store.seen c.args.store.now).told in let m = (g.S.Store.seen c.add-answer.new.store).told in let b = (g.S.Store.seen c.synced.new.store).told in
+    let saves = subst (λ (q : List ℕ). SavesFromHost X N c.args.profile a m tells c.args.recursive q r) c.as_str-text.ensures c.add-answer.ensures.no_other in
+    let gives = subst (λ (q : List ℕ). GivesHost q r (Ok c.in_ok-given.given)) c.in_ok-own.ensures c.in_ok-given.ensures in
+    rows-kept X N c.args.profile a m b tells c.args.recursive c.args.path.now r (Ok c.in_ok-given.given) (ended c.synced.result) gives (λ why e. absurd cc) saves (synced-leaves c.synced.result m b c.synced.ensures.synced c.synced.ensures.failed)
