@@ -5,7 +5,7 @@ use std::alloc::Global;
 use std::sync::ledger::Ledger;
 use uf_cache::Cached;
 use uf_cid::{Block, BlockHash, Memory};
-use uf_playing::{Caller, Player, Scene, call_memory, call_store, play_lines, sweep};
+use uf_playing::{Caller, Player, Scene, call_store, play_lines, sweep};
 use uf_store::{MemStore, Steps};
 use uf_testing::{Sheet, begins_row, bytes_of, number_of, say, tell_count, word_and_rest};
 
@@ -20,15 +20,18 @@ impl Caller for BaseCalls {
         touches: &mut Steps<L>,
     ) -> Result<bool, Memory> {
         let (word, rest) = word_and_rest(line);
+        let alloc = scene.alloc;
         Ok(
-            call_over(scene, line, told, touches)?
-                || call_alone(scene, word, rest, told)?
-                || call_on_bytes(scene.alloc, scene.input.as_slice(), word, rest, told)?,
+            pins::call(alloc, &mut scene.store, line, told, touches)?
+                || hosts::call(alloc, &mut scene.host, line, told)?
+                || call_alone(alloc, scene.input.as_slice(), word, rest, told)?
+                || call_on_bytes(alloc, scene.input.as_slice(), word, rest, told)?,
         )
     }
 }
 
 impl Player for BaseCalls {
+    // What is after a line `! cache N` is played over a cache.
     fn play<X: BlockHash, L: Ledger>(
         scene: &mut Scene<X>,
         title: &str,
@@ -36,33 +39,40 @@ impl Player for BaseCalls {
         sheet: &mut Sheet,
         touches: &mut Steps<L>,
     ) -> Result<(), Memory> {
-        play_halves(scene, title, part, sheet, touches)
+        let Some((first, second)) = part.split_once("\n! cache ") else {
+            return play_lines::<BaseCalls, X, L>(scene, title, part, sheet, touches);
+        };
+        let (entries, rest) = second.split_once('\n').unwrap_or((second, ""));
+        play_lines::<BaseCalls, X, L>(scene, title, first, sheet, touches)?;
+        sheet.count_line();
+        let line = format!(in scene.alloc; "! cache {entries}")?;
+        sheet.tell(line.as_str())?;
+        play_over(scene, number_of(entries), (title, rest), sheet, touches)
     }
 }
 
 // Calls that need no store.
-fn call_alone<X: BlockHash>(
-    scene: &Scene<X>,
+fn call_alone(
+    alloc: Global,
+    input: &[u8],
     word: &str,
     rest: &str,
     told: &mut Block,
 ) -> Result<bool, Memory> {
-    let input = scene.input.as_slice();
-    if word == "walk" {
-        walks::walk(scene.alloc, rest, told)?;
-        return Ok(true);
+    match word {
+        "walk" => walks::walk(alloc, rest, told)?,
+        "pins" => pins::read(alloc, input, told)?,
+        _ => {
+            return Ok(
+                nodes::call(input, word, rest, told)?
+                    || edges::call_on(alloc, input, word, rest, told)?
+                    || numbers::call(alloc, word, rest, told)?
+                    || paths::call(alloc, input, word, told)?
+                    || cids::call(alloc, word, rest, told)?,
+            );
+        }
     }
-    if word == "pins" {
-        pins::read(scene.alloc, input, told)?;
-        return Ok(true);
-    }
-    Ok(
-        nodes::call(input, word, rest, told)?
-            || edges::call_on(scene.alloc, input, word, rest, told)?
-            || numbers::call(scene.alloc, word, rest, told)?
-            || paths::call(scene.alloc, input, word, told)?
-            || cids::call(scene.alloc, word, rest, told)?,
-    )
+    Ok(true)
 }
 
 // Calls on the bytes of the input, with those that the line spells after them.
@@ -77,21 +87,6 @@ fn call_on_bytes(
     let more = bytes_of(alloc, rest)?;
     bytes.extend(more.as_slice())?;
     nodes::call_on(alloc, word, bytes.as_slice(), told)
-}
-
-// Calls over the store and the host.
-fn call_over<X: BlockHash, L: Ledger>(
-    scene: &mut Scene<X>,
-    line: &str,
-    told: &mut Block,
-    touches: &mut Steps<L>,
-) -> Result<bool, Memory> {
-    let alloc = scene.alloc;
-    Ok(
-        call_memory(alloc, &mut scene.store, line, told, touches)?
-            || pins::call(alloc, &mut scene.store, line, told, touches)?
-            || hosts::call(alloc, &mut scene.host, line, told)?,
-    )
 }
 
 // Makes a call over a cache, and reports what comes of it.
@@ -146,23 +141,4 @@ fn play_over<X: BlockHash, L: Ledger>(
     let entries = entries.min(1024).max(1) as usize;
     let mut store = Cached::new(scene.alloc, below, entries)?;
     play_behind(scene.alloc, &mut store, part, sheet, touches)
-}
-
-// Plays a part over a scene, and what is after its line `! cache N` over a cache.
-fn play_halves<X: BlockHash, L: Ledger>(
-    scene: &mut Scene<X>,
-    title: &str,
-    part: &str,
-    sheet: &mut Sheet,
-    touches: &mut Steps<L>,
-) -> Result<(), Memory> {
-    let Some((first, second)) = part.split_once("\n! cache ") else {
-        return play_lines::<BaseCalls, X, L>(scene, title, part, sheet, touches);
-    };
-    let (entries, rest) = second.split_once('\n').unwrap_or((second, ""));
-    play_lines::<BaseCalls, X, L>(scene, title, first, sheet, touches)?;
-    sheet.count_line();
-    let line = format!(in scene.alloc; "! cache {entries}")?;
-    sheet.tell(line.as_str())?;
-    play_over(scene, number_of(entries), (title, rest), sheet, touches)
 }

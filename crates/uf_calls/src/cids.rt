@@ -1,8 +1,8 @@
 //! Calls on CIDs and on small types.
 
 use std::alloc::Global;
-use uf_cid::{Block, Cid, CidFault, Cids, Codec, Memory, Sha256Hash, Sizes, Sum8Hash, Text, Texts};
-use uf_playing::{codec_of, say_cid, size_of};
+use uf_cid::{Block, Cid, Cids, Codec, Memory, Sha256Hash, Sizes, Sum8Hash, Text, Texts};
+use uf_playing::{codec_of, say_cid, say_debug, size_of};
 use uf_testing::{bytes_of, number_of, say, say_digits, tell_bytes, tell_count, word_and_rest};
 
 // Says what a CID is made of.
@@ -18,16 +18,11 @@ fn say_parts(told: &mut Block, cid: &Cid) -> Result<(), Memory> {
     say_digits(told, &cid.digest)
 }
 
-fn say_fault(alloc: Global, told: &mut Block, fault: CidFault) -> Result<(), Memory> {
-    let line = format!(in alloc; "{fault:?}")?;
-    say(told, line.as_str())
-}
-
 // Reads the text of a CID.
 fn parse(alloc: Global, text: &str, told: &mut Block) -> Result<(), Memory> {
     match Cid::parse(text) {
         Ok(cid) => say_parts(told, &cid),
-        Err(fault) => say_fault(alloc, told, fault),
+        Err(fault) => say_debug(alloc, told, &fault),
     }
 }
 
@@ -38,7 +33,7 @@ fn read_bytes(alloc: Global, bytes: &[u8], told: &mut Block) -> Result<(), Memor
             say_parts(told, &cid)?;
             tell_count(told, alloc, used)
         }
-        Err(fault) => say_fault(alloc, told, fault),
+        Err(fault) => say_debug(alloc, told, &fault),
     }
 }
 

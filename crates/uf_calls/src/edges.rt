@@ -2,15 +2,16 @@
 
 use std::alloc::Global;
 use uf_cid::{Block, Memory};
-use uf_edge::{Filled, Intake, MemSink, MemSource, Sent, fill, read_all, write_all};
+use uf_edge::{Filled, Intake, MemSource, Sent, fill, read_all, write_all};
 use uf_lines::{Line, Lines};
-use uf_playing::{failing, size_of, source_of};
-use uf_testing::{calls, number_and_rest, number_of, say, tell_bytes, tell_count};
+use uf_playing::{failing, say_debug, size_of, source_of};
+use uf_testing::{
+    number_and_rest, number_of, say, sink, tell_bytes, tell_count, two_numbers_and_rest,
+};
 
 // Reads all of a source of at most n bytes: `read-all STEP LIMIT CALL`.
 fn read_whole(alloc: Global, bytes: &[u8], rest: &str, told: &mut Block) -> Result<(), Memory> {
-    let (step, rest) = number_and_rest(rest);
-    let (limit, rest) = number_and_rest(rest);
+    let (step, limit, rest) = two_numbers_and_rest(rest);
     let mut input = source_of(alloc, bytes, step, number_of(rest))?;
     match read_all(alloc, &mut input, limit) {
         Ok(got) => tell_bytes(told, alloc, b"> ", got.as_slice()),
@@ -39,8 +40,7 @@ fn say_filled(
 
 // Fills a buffer: `fill STEP SIZE CALL`.
 fn fill_buffer(alloc: Global, bytes: &[u8], rest: &str, told: &mut Block) -> Result<(), Memory> {
-    let (step, rest) = number_and_rest(rest);
-    let (size, rest) = number_and_rest(rest);
+    let (step, size, rest) = two_numbers_and_rest(rest);
     let mut input = source_of(alloc, bytes, step, number_of(rest))?;
     let mut buffer = uf_cid::zeros(alloc, size.min(65536) as usize)?;
     let filled = fill(&mut input, &mut buffer);
@@ -50,8 +50,7 @@ fn fill_buffer(alloc: Global, bytes: &[u8], rest: &str, told: &mut Block) -> Res
 // Writes bytes twice into a sink with ROOM bytes of room: `write-twice ROOM CALL`.
 fn write_twice(alloc: Global, bytes: &[u8], rest: &str, told: &mut Block) -> Result<(), Memory> {
     let (room, rest) = number_and_rest(rest);
-    let fails = calls(alloc, failing(number_of(rest)))?;
-    let mut output = MemSink::new(alloc, room.min(65536) as usize, fails)?;
+    let mut output = sink(alloc, room.min(65536) as usize, failing(number_of(rest)))?;
     let _ = write_all(&mut output, bytes);
     let sent = write_all(&mut output, bytes);
     say(told, if sent == Sent::Done { "done" } else { "failed" })?;
@@ -63,12 +62,6 @@ fn say_given(alloc: Global, bytes: &[u8], told: &mut Block) -> Result<(), Memory
     let mut line = Block::from_slice(alloc, bytes)?;
     line.extend(b"\n")?;
     tell_bytes(told, alloc, b"> line ", line.as_slice())
-}
-
-// Says why no line comes.
-fn say_end(alloc: Global, line: Line, told: &mut Block) -> Result<(), Memory> {
-    let why = format!(in alloc; "{line:?}")?;
-    say(told, why.as_str())
 }
 
 // Takes the lines of a source, at most a thousand.
@@ -83,7 +76,7 @@ fn take_lines(
     for _ in 0..1000 {
         let line = lines.next(input);
         if line != Line::Given {
-            return say_end(alloc, line, told);
+            return say_debug(alloc, told, &line);
         }
         say_given(alloc, lines.line(), told)?;
     }
@@ -92,8 +85,7 @@ fn take_lines(
 
 // The lines of a source: `lines STEP MOST LIMIT CALL`.
 fn read_lines(alloc: Global, bytes: &[u8], rest: &str, told: &mut Block) -> Result<(), Memory> {
-    let (step, rest) = number_and_rest(rest);
-    let (most, rest) = number_and_rest(rest);
+    let (step, most, rest) = two_numbers_and_rest(rest);
     let (limit, rest) = number_and_rest(rest);
     let mut input = source_of(alloc, bytes, step, number_of(rest))?;
     take_lines(alloc, size_of(most), limit, &mut input, told)

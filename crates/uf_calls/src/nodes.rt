@@ -7,46 +7,36 @@ use std::alloc::Global;
 use uf_cid::{Block, BlockHash, Cid, Memory, Sha256Hash, StrictFault};
 use uf_dagpb::{Node, PbFault};
 use uf_message::Message;
-use uf_playing::{say_cid, size_of, small};
-use uf_testing::{number_and_rest, number_of, say, tell_bytes, tell_count};
+use uf_playing::{say_amount, say_cid, say_debug, size_of, small};
+use uf_testing::{number_and_rest, number_of, say, tell_bytes, tell_count, two_numbers_and_rest};
 use uf_tree::{
     BadProfile, Head, Name, NameFault, Profile, dir_node, file_node, head_text, read_dir_node,
     read_file_node, read_head, read_shard_node, shard_node,
 };
+
+fn say_content(alloc: Global, content: &Option<Block>, told: &mut Block) -> Result<(), Memory> {
+    match content {
+        Some(content) => tell_bytes(told, alloc, b"> content ", content.as_slice()),
+        None => say(told, "no content"),
+    }
+}
 
 // Says how many links a node has, and of the last one what it is, and what the content is.
 fn say_node(alloc: Global, node: &Node, told: &mut Block) -> Result<(), Memory> {
     tell_count(told, alloc, node.links.len())?;
     if let Some(last) = node.links.as_slice().last() {
         say_cid(told, &last.cid)?;
-        let size = format!(in alloc; "{} {}", last.tsize, last.name.as_str())?;
-        say(told, size.as_str())?;
+        say_amount(alloc, told, last.tsize, last.name.as_str())?;
     }
-    match &node.content {
-        Some(content) => tell_bytes(told, alloc, b"> content ", content.as_slice()),
-        None => say(told, "no content"),
-    }
+    say_content(alloc, &node.content, told)
 }
 
-// Reads a node as others may have written it.
-fn read_node(alloc: Global, bytes: &[u8], told: &mut Block) -> Result<(), Memory> {
+// Reads a node as others may have written it: says what it has, or at `links` only how many links.
+fn read_node(alloc: Global, word: &str, bytes: &[u8], told: &mut Block) -> Result<(), Memory> {
     match uf_dagpb::decode_lenient(alloc, bytes) {
+        Ok(node) if word == "links" => tell_count(told, alloc, node.links.len()),
         Ok(node) => say_node(alloc, &node, told),
-        Err(fault) => {
-            let line = format!(in alloc; "{fault:?}")?;
-            say(told, line.as_str())
-        }
-    }
-}
-
-// Says how many links a node has.
-fn count_links(alloc: Global, bytes: &[u8], told: &mut Block) -> Result<(), Memory> {
-    match uf_dagpb::decode_lenient(alloc, bytes) {
-        Ok(node) => tell_count(told, alloc, node.links.len()),
-        Err(fault) => {
-            let line = format!(in alloc; "{fault:?}")?;
-            say(told, line.as_str())
-        }
+        Err(fault) => say_debug(alloc, told, &fault),
     }
 }
 
@@ -139,20 +129,14 @@ fn say_message(alloc: Global, message: &Message, told: &mut Block) -> Result<(),
     for size in message.blocksizes.as_slice() {
         tell_count(told, alloc, size_of(*size))?;
     }
-    match &message.content {
-        Some(content) => tell_bytes(told, alloc, b"> content ", content.as_slice()),
-        None => say(told, "no content"),
-    }
+    say_content(alloc, &message.content, told)
 }
 
 // Reads a message as others may have written it.
 fn read_message(alloc: Global, bytes: &[u8], told: &mut Block) -> Result<(), Memory> {
     match uf_message::decode_lenient(alloc, bytes) {
         Ok(message) => say_message(alloc, &message, told),
-        Err(fault) => {
-            let line = format!(in alloc; "{fault:?}")?;
-            say(told, line.as_str())
-        }
+        Err(fault) => say_debug(alloc, told, &fault),
     }
 }
 
@@ -177,8 +161,7 @@ fn read_name(alloc: Global, bytes: &[u8], told: &mut Block) -> Result<(), Memory
 
 // The profile of three numbers.
 fn profile_of(rest: &str) -> Result<Profile, BadProfile> {
-    let (chunk, rest) = number_and_rest(rest);
-    let (width, rest) = number_and_rest(rest);
+    let (chunk, width, rest) = two_numbers_and_rest(rest);
     Profile::new(small(chunk), small(width), small(number_of(rest)))
 }
 
@@ -194,10 +177,7 @@ fn read_profile(rest: &str, told: &mut Block) -> Result<(), Memory> {
 fn read_and_write_head(alloc: Global, bytes: &[u8], told: &mut Block) -> Result<(), Memory> {
     match read_head(alloc, bytes) {
         Ok(head) => write_head(alloc, &head, told),
-        Err(fault) => {
-            let line = format!(in alloc; "{fault:?}")?;
-            say(told, line.as_str())
-        }
+        Err(fault) => say_debug(alloc, told, &fault),
     }
 }
 
@@ -246,9 +226,8 @@ fn say_group(bytes: &[u8], size: usize, count: usize, told: &mut Block) -> Resul
 }
 
 fn hash_group(bytes: &[u8], rest: &str, told: &mut Block) -> Result<(), Memory> {
-    let (size, rest) = number_and_rest(rest);
-    let first = number_of(rest);
-    say_group(bytes, size_of(size), size_of(first), told)
+    let (size, count) = number_and_rest(rest);
+    say_group(bytes, size_of(size), size_of(number_of(count)), told)
 }
 
 // Seventeen lengths, each so much more than the one before it, up to 184 and then from 0 on.
@@ -305,8 +284,7 @@ fn say_apart(
 }
 
 fn hash_apart(bytes: &[u8], rest: &str, told: &mut Block) -> Result<(), Memory> {
-    let (first, rest) = number_and_rest(rest);
-    let (step, rest) = number_and_rest(rest);
+    let (first, step, rest) = two_numbers_and_rest(rest);
     let count = number_of(rest);
     say_apart(bytes, size_of(first), size_of(step), size_of(count), told)
 }
@@ -326,8 +304,7 @@ fn again(alloc: Global, word: &str, bytes: &[u8]) -> Option<Result<bool, StrictF
 /// Makes a call on bytes; whether the word names one of these.
 pub fn call_on(alloc: Global, word: &str, bytes: &[u8], told: &mut Block) -> Result<bool, Memory> {
     match word {
-        "node" => read_node(alloc, bytes, told)?,
-        "links" => count_links(alloc, bytes, told)?,
+        "node" | "links" => read_node(alloc, word, bytes, told)?,
         "node-changed" => say_sound(alloc, bytes, told)?,
         "message" => read_message(alloc, bytes, told)?,
         "name" => read_name(alloc, bytes, told)?,

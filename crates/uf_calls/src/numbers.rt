@@ -3,19 +3,14 @@
 use std::alloc::Global;
 use uf_cid::{Block, Memory};
 use uf_murmur::{FirstEight, Murmur3, NameHash, slot};
-use uf_playing::small;
+use uf_playing::{say_debug, small};
 use uf_testing::{bytes_of, number_and_rest, number_of, say, say_digits, tell_count};
-use uf_varint::{NumberField, Var, read_multi, read_proto, skip_content, width, write};
-
-fn say_var(alloc: Global, var: Var, told: &mut Block) -> Result<(), Memory> {
-    let line = format!(in alloc; "{var:?}")?;
-    say(told, line.as_str())
-}
+use uf_varint::{NumberField, read_multi, read_proto, skip_content, width, write};
 
 // What both readers say of some bytes: the shortest spelling alone, and any spelling.
 fn read_both(alloc: Global, bytes: &[u8], told: &mut Block) -> Result<(), Memory> {
-    say_var(alloc, read_multi(bytes), told)?;
-    say_var(alloc, read_proto(bytes), told)
+    say_debug(alloc, told, &read_multi(bytes))?;
+    say_debug(alloc, told, &read_proto(bytes))
 }
 
 // What is written of a number into ten bytes that are 9, and its length.
@@ -30,10 +25,7 @@ fn write_number(alloc: Global, number: u64, told: &mut Block) -> Result<(), Memo
 fn skip(alloc: Global, wire: u64, bytes: &[u8], told: &mut Block) -> Result<(), Memory> {
     match skip_content(wire, bytes) {
         Ok(rest) => tell_count(told, alloc, rest.len()),
-        Err(fault) => {
-            let line = format!(in alloc; "{fault:?}")?;
-            say(told, line.as_str())
-        }
+        Err(fault) => say_debug(alloc, told, &fault),
     }
 }
 

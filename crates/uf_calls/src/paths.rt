@@ -2,15 +2,10 @@
 
 use std::alloc::Global;
 use uf_cid::{Block, Memory};
-use uf_path::{DagPath, Path, PathFault, Target};
-use uf_playing::say_cid;
+use uf_path::{DagPath, Path, Target};
+use uf_playing::{say_cid, say_debug};
 use uf_testing::say;
 use uf_tree::Names;
-
-fn say_fault(alloc: Global, fault: PathFault, told: &mut Block) -> Result<(), Memory> {
-    let line = format!(in alloc; "{fault:?}")?;
-    say(told, line.as_str())
-}
 
 fn say_names(told: &mut Block, names: &Names) -> Result<(), Memory> {
     for name in names.as_slice() {
@@ -40,14 +35,14 @@ fn say_dag_path(told: &mut Block, path: &DagPath) -> Result<(), Memory> {
 fn read_path(alloc: Global, text: &str, told: &mut Block) -> Result<(), Memory> {
     match Path::parse(alloc, text) {
         Ok(path) => say_path(told, &path),
-        Err(fault) => say_fault(alloc, fault, told),
+        Err(fault) => say_debug(alloc, told, &fault),
     }
 }
 
 fn read_dag_path(alloc: Global, text: &str, told: &mut Block) -> Result<(), Memory> {
     match DagPath::parse(alloc, text) {
         Ok(path) => say_dag_path(told, &path),
-        Err(fault) => say_fault(alloc, fault, told),
+        Err(fault) => say_debug(alloc, told, &fault),
     }
 }
 
@@ -55,7 +50,7 @@ fn read_target(alloc: Global, text: &str, told: &mut Block) -> Result<(), Memory
     match Target::parse(alloc, text) {
         Ok(Target::Tree(path)) => say_path(told, &path),
         Ok(Target::Dag(path)) => say_dag_path(told, &path),
-        Err(fault) => say_fault(alloc, fault, told),
+        Err(fault) => say_debug(alloc, told, &fault),
     }
 }
 

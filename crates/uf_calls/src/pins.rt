@@ -4,7 +4,7 @@ use std::alloc::Global;
 use std::sync::ledger::Ledger;
 use uf_cid::{Block, BlockHash, Cids, Memory};
 use uf_pins::{PinFault, add_pin, collect, list_pins, read_pins, remove_pin};
-use uf_playing::{cid_in, say_cid, say_fault, small};
+use uf_playing::{cid_in, say_about, say_amount, say_cids, say_debug, say_fault, small};
 use uf_store::{MemStore, Steps};
 use uf_testing::{number_and_rest, say, word_and_rest};
 
@@ -15,14 +15,10 @@ fn say_pin_fault(alloc: Global, fault: &PinFault, told: &mut Block) -> Result<()
     match fault {
         PinFault::BadPins => say(told, "bad pins"),
         PinFault::TooManyPins => say(told, "too many pins"),
-        PinFault::NotPinned(cid) => {
-            say(told, "not pinned")?;
-            say_cid(told, cid)
-        }
+        PinFault::NotPinned(cid) => say_about(told, "not pinned", cid),
         PinFault::NotDagPb(cid, why) => {
             let line = format!(in alloc; "not dag-pb {why}")?;
-            say(told, line.as_str())?;
-            say_cid(told, cid)
+            say_about(told, line.as_str(), cid)
         }
         PinFault::TooMany => say(told, "too many"),
         PinFault::Store(fault) => say_fault(alloc, fault, told),
@@ -63,20 +59,13 @@ fn unpin<X: BlockHash>(
     say_done(alloc, &answer, told)
 }
 
-fn say_all(told: &mut Block, cids: &Cids) -> Result<(), Memory> {
-    for cid in cids.as_slice() {
-        say_cid(told, cid)?;
-    }
-    say(told, "no more")
-}
-
 fn list<X: BlockHash>(
     alloc: Global,
     store: &mut MemStore<X>,
     told: &mut Block,
 ) -> Result<(), Memory> {
     match list_pins(alloc, store) {
-        Ok(cids) => say_all(told, &cids),
+        Ok(cids) => say_cids(told, &cids),
         Err(fault) => say_pin_fault(alloc, &fault, told),
     }
 }
@@ -100,10 +89,7 @@ fn collect_all<X: BlockHash, L: Ledger>(
 ) -> Result<(), Memory> {
     let roots = roots_of::<X>(alloc, rest)?;
     match collect(alloc, store, &roots, MOST, touches) {
-        Ok(count) => {
-            let line = format!(in alloc; "{count} went")?;
-            say(told, line.as_str())
-        }
+        Ok(count) => say_amount(alloc, told, count, "went"),
         Err(fault) => say_pin_fault(alloc, &fault, told),
     }
 }
@@ -111,11 +97,8 @@ fn collect_all<X: BlockHash, L: Ledger>(
 /// Reads the bytes of a note of pins: `pins` on the input.
 pub fn read(alloc: Global, bytes: &[u8], told: &mut Block) -> Result<(), Memory> {
     match read_pins(alloc, bytes) {
-        Ok(cids) => say_all(told, &cids),
-        Err(fault) => {
-            let line = format!(in alloc; "{fault:?}")?;
-            say(told, line.as_str())
-        }
+        Ok(cids) => say_cids(told, &cids),
+        Err(fault) => say_debug(alloc, told, &fault),
     }
 }
 

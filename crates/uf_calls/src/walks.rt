@@ -3,7 +3,7 @@ ghost use Rattle.std.specs.Prelude.{◌≡◌, None};
 
 use std::alloc::Global;
 use uf_cid::{Block, Cid, Codec, Memory, Seq};
-use uf_playing::small;
+use uf_playing::{say_debug, say_number, small};
 use uf_testing::{number_and_rest, number_of, say};
 use uf_walk::{Turn, Walk, WalkFault};
 
@@ -99,18 +99,15 @@ fn cid_of(word: &str) -> Cid {
 }
 
 fn say_ending(alloc: Global, ending: Ending, told: &mut Block) -> Result<(), Memory> {
-    let line = match ending {
-        Ending::Whole => format!(in alloc; "whole")?,
-        Ending::TooMany => format!(in alloc; "too many")?,
-        Ending::Missing(number) => format!(in alloc; "missing {number}")?,
-        Ending::NoNode(number, why) => format!(in alloc; "no node {number}: {why}")?,
-    };
-    say(told, line.as_str())
-}
-
-fn say_numbers(alloc: Global, numbers: &[u8], told: &mut Block) -> Result<(), Memory> {
-    let line = format!(in alloc; "{numbers:?}")?;
-    say(told, line.as_str())
+    match ending {
+        Ending::Whole => say(told, "whole"),
+        Ending::TooMany => say(told, "too many"),
+        Ending::Missing(number) => say_number(alloc, told, "missing", u64::from(number)),
+        Ending::NoNode(number, why) => {
+            let line = format!(in alloc; "no node {number}: {why}")?;
+            say(told, line.as_str())
+        }
+    }
 }
 
 // Says the place of a CID that was handed out.
@@ -133,7 +130,7 @@ fn say_walked(
     ending: Ending,
     told: &mut Block,
 ) -> Result<(), Memory> {
-    say_numbers(alloc, numbers, told)?;
+    say_debug(alloc, told, &numbers)?;
     for place in 0..small(numbers.len() as u64).saturating_add(1) {
         say_met(alloc, walk, place, told)?;
     }

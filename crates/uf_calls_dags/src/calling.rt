@@ -3,9 +3,9 @@
 use crate::{cars, dirs, edits, files, foreign, lookups, plain};
 use std::sync::ledger::Ledger;
 use uf_cid::{Block, BlockHash, Memory};
-use uf_playing::{Caller, Player, Scene, call_memory, play_lines};
+use uf_playing::{Caller, Player, Scene};
 use uf_store::Steps;
-use uf_testing::{Sheet, word_and_rest};
+use uf_testing::word_and_rest;
 
 /// The calls of this program, and how it plays the parts.
 pub struct DagCalls;
@@ -18,43 +18,16 @@ impl Caller for DagCalls {
         touches: &mut Steps<L>,
     ) -> Result<bool, Memory> {
         let (word, rest) = word_and_rest(line);
-        if word == "same" {
-            cars::compare(scene.alloc, scene.both(), rest, told, touches)?;
-            return Ok(true);
-        }
-        call_over(scene, line, told, touches)
+        Ok(
+            cars::call(scene, word, rest, told, touches)?
+                || files::call(scene, word, rest, told, touches)?
+                || edits::call(scene, word, rest, told, touches)?
+                || foreign::call(scene, word, rest, told, touches)?
+                || dirs::call(scene, word, rest, told, touches)?
+                || lookups::call(scene, word, rest, told, touches)?
+                || plain::call(scene.alloc, word, rest, told)?,
+        )
     }
 }
 
-impl Player for DagCalls {
-    fn play<X: BlockHash, L: Ledger>(
-        scene: &mut Scene<X>,
-        title: &str,
-        part: &str,
-        sheet: &mut Sheet,
-        touches: &mut Steps<L>,
-    ) -> Result<(), Memory> {
-        play_lines::<DagCalls, X, L>(scene, title, part, sheet, touches)
-    }
-}
-
-// Calls over the store and the input.
-fn call_over<X: BlockHash, L: Ledger>(
-    scene: &mut Scene<X>,
-    line: &str,
-    told: &mut Block,
-    touches: &mut Steps<L>,
-) -> Result<bool, Memory> {
-    let alloc = scene.alloc;
-    let store = &mut scene.store;
-    Ok(
-        call_memory(alloc, store, line, told, touches)?
-            || cars::call(alloc, store, &mut scene.input, line, told, touches)?
-            || files::call(alloc, store, scene.input.as_slice(), line, told, touches)?
-            || edits::call(alloc, store, scene.input.as_slice(), line, told, touches)?
-            || foreign::call(alloc, store, line, told, touches)?
-            || dirs::call(alloc, store, line, told, touches)?
-            || lookups::call(alloc, store, line, told, touches)?
-            || plain::call(alloc, line, told)?,
-    )
-}
+impl Player for DagCalls {}

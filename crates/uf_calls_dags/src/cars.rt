@@ -3,19 +3,13 @@
 use std::alloc::Global;
 use std::sync::ledger::Ledger;
 use uf_car::{CarFault, ExportFault, export, import};
-use uf_cid::{Block, BlockHash, Cid, Memory};
-use uf_edge::{Calls, MemSink, MemSource};
-use uf_playing::{cid_in, cid_of, say_fault, small, source_of};
+use uf_cid::{Block, BlockHash, Memory};
+use uf_edge::{MemSink, MemSource};
+use uf_playing::{Scene, cid_in, cid_of, say_fault, say_number, small, source_of};
 use uf_pull::{PullFault, ServeFault, pull, serve};
 use uf_same::{Compared, SameFault, same};
-use uf_store::{MemStore, Steps, StoreFault};
-use uf_testing::{number_and_rest, number_of, say, tell_bytes, word_and_rest};
-
-// A word, and the number that it is about.
-fn say_number(alloc: Global, told: &mut Block, word: &str, number: u64) -> Result<(), Memory> {
-    let line = format!(in alloc; "{word} {number}")?;
-    say(told, line.as_str())
-}
+use uf_store::{Steps, StoreFault};
+use uf_testing::{number_and_rest, number_of, say, sink, tell_bytes, two_numbers_and_rest};
 
 fn say_car_fault(alloc: Global, fault: &CarFault, told: &mut Block) -> Result<(), Memory> {
     match fault {
@@ -35,25 +29,20 @@ fn say_car_fault(alloc: Global, fault: &CarFault, told: &mut Block) -> Result<()
 
 // Reads a CAR of at most n bytes: `import STEP LIMIT` on the input.
 fn read_car<X: BlockHash, L: Ledger>(
-    alloc: Global,
-    store: &mut MemStore<X>,
-    bytes: &[u8],
+    scene: &mut Scene<X>,
     rest: &str,
     told: &mut Block,
     touches: &mut Steps<L>,
 ) -> Result<(), Memory> {
-    let (step, rest) = number_and_rest(rest);
-    let mut source = source_of(alloc, bytes, step, 0)?;
-    match import(alloc, store, &mut source, number_of(rest), touches) {
+    let (step, limit, _) = two_numbers_and_rest(rest);
+    let mut source = source_of(scene.alloc, scene.input.as_slice(), step, 0)?;
+    match import(scene.alloc, &mut scene.store, &mut source, limit, touches) {
         Ok(imported) => {
-            let line = format!(in alloc;
-                "{} roots, {} blocks",
-                imported.roots.len(),
-                imported.blocks
-            )?;
+            let count = imported.roots.len();
+            let line = format!(in scene.alloc; "{count} roots, {} blocks", imported.blocks)?;
             say(told, line.as_str())
         }
-        Err(fault) => say_car_fault(alloc, &fault, told),
+        Err(fault) => say_car_fault(scene.alloc, &fault, told),
     }
 }
 
@@ -73,31 +62,24 @@ fn say_export(
 
 // Writes the CAR below a CID of at most MOST CIDs, into ROOM bytes of room: `export MOST ROOM CID`.
 fn write_car<X: BlockHash, L: Ledger>(
-    alloc: Global,
-    store: &mut MemStore<X>,
+    scene: &mut Scene<X>,
     rest: &str,
     told: &mut Block,
     touches: &mut Steps<L>,
 ) -> Result<(), Memory> {
-    let (most, rest) = number_and_rest(rest);
-    let (room, text) = number_and_rest(rest);
-    let mut sink = MemSink::new(alloc, room.min(1048576) as usize, Calls::new(alloc))?;
+    let (most, room, text) = two_numbers_and_rest(rest);
+    let mut output = sink(scene.alloc, room.min(1048576) as usize, None)?;
     let cid = cid_of(text);
-    export_over(alloc, store, &mut sink, (small(most), &cid), told, touches)
-}
-
-fn export_over<X: BlockHash, L: Ledger>(
-    alloc: Global,
-    store: &mut MemStore<X>,
-    sink: &mut MemSink,
-    what: (u32, &Cid),
-    told: &mut Block,
-    touches: &mut Steps<L>,
-) -> Result<(), Memory> {
-    let (most, cid) = what;
-    let answer = export(alloc, store, cid, most, sink, touches);
-    say_export(alloc, &answer, told)?;
-    tell_bytes(told, alloc, b"> ", sink.bytes())
+    let answer = export(
+        scene.alloc,
+        &mut scene.store,
+        &cid,
+        small(most),
+        &mut output,
+        touches,
+    );
+    say_export(scene.alloc, &answer, told)?;
+    tell_bytes(told, scene.alloc, b"> ", output.bytes())
 }
 
 fn say_pull(
@@ -119,34 +101,34 @@ fn say_pull(
     }
 }
 
-// Pulls what is below a CID of what the input answers: `pull MOST CID`.
-fn pull_from<X: BlockHash, L: Ledger>(
-    alloc: Global,
-    store: &mut MemStore<X>,
-    bytes: &[u8],
-    rest: &str,
-    told: &mut Block,
-    touches: &mut Steps<L>,
-) -> Result<(), Memory> {
-    let mut source = source_of(alloc, bytes, 13, 0)?;
-    let mut sink = MemSink::new(alloc, 9999, Calls::new(alloc))?;
-    pull_over(alloc, store, (&mut source, &mut sink), rest, told, touches)
+// The input as a source that gives 13 bytes in a call, and an output.
+fn ends_of(alloc: Global, input: &[u8]) -> Result<(MemSource, MemSink), Memory> {
+    let source = source_of(alloc, input, 13, 0)?;
+    let output = sink(alloc, 9999, None)?;
+    Ok((source, output))
 }
 
-fn pull_over<X: BlockHash, L: Ledger>(
-    alloc: Global,
-    store: &mut MemStore<X>,
-    ends: (&mut MemSource, &mut MemSink),
+// Pulls what is below a CID of what the input answers: `pull MOST CID`.
+fn pull_from<X: BlockHash, L: Ledger>(
+    scene: &mut Scene<X>,
     rest: &str,
     told: &mut Block,
     touches: &mut Steps<L>,
 ) -> Result<(), Memory> {
     let (most, text) = number_and_rest(rest);
-    let (source, sink) = ends;
     let cid = cid_of(text);
-    let answer = pull(alloc, store, &cid, small(most), source, sink, touches);
-    say_pull(alloc, &answer, told)?;
-    tell_bytes(told, alloc, b"> ", sink.bytes())
+    let (mut source, mut output) = ends_of(scene.alloc, scene.input.as_slice())?;
+    let answer = pull(
+        scene.alloc,
+        &mut scene.store,
+        &cid,
+        small(most),
+        &mut source,
+        &mut output,
+        touches,
+    );
+    say_pull(scene.alloc, &answer, told)?;
+    tell_bytes(told, scene.alloc, b"> ", output.bytes())
 }
 
 fn say_serve(
@@ -166,33 +148,24 @@ fn say_serve(
 
 // Answers the lines of the input, of at most n bytes: `serve LIMIT`. The answers are the next input.
 fn serve_to<X: BlockHash, L: Ledger>(
-    alloc: Global,
-    store: &mut MemStore<X>,
-    input: &mut Block,
+    scene: &mut Scene<X>,
     rest: &str,
     told: &mut Block,
     touches: &mut Steps<L>,
 ) -> Result<(), Memory> {
-    let mut source = source_of(alloc, input.as_slice(), 13, 0)?;
-    let mut sink = MemSink::new(alloc, 9999, Calls::new(alloc))?;
-    let ends = (&mut source, &mut sink);
-    serve_over(alloc, store, ends, number_of(rest), input, told, touches)
-}
-
-fn serve_over<X: BlockHash, L: Ledger>(
-    alloc: Global,
-    store: &mut MemStore<X>,
-    ends: (&mut MemSource, &mut MemSink),
-    limit: u64,
-    input: &mut Block,
-    told: &mut Block,
-    touches: &mut Steps<L>,
-) -> Result<(), Memory> {
-    let (source, sink) = ends;
-    let answer = serve(alloc, store, limit, source, sink, touches);
-    say_serve(alloc, &answer, told)?;
-    *input = Block::from_slice(alloc, sink.bytes())?;
-    tell_bytes(told, alloc, b"> ", sink.bytes())
+    let (mut source, mut output) = ends_of(scene.alloc, scene.input.as_slice())?;
+    let limit = number_of(rest);
+    let answer = serve(
+        scene.alloc,
+        &mut scene.store,
+        limit,
+        &mut source,
+        &mut output,
+        touches,
+    );
+    say_serve(scene.alloc, &answer, told)?;
+    scene.input = Block::from_slice(scene.alloc, output.bytes())?;
+    tell_bytes(told, scene.alloc, b"> ", output.bytes())
 }
 
 fn say_compared(alloc: Global, found: &Compared, told: &mut Block) -> Result<(), Memory> {
@@ -219,19 +192,19 @@ fn say_same_fault(alloc: Global, fault: &SameFault, told: &mut Block) -> Result<
     }
 }
 
-/// Compares two stores below two CIDs, of at most MOST CIDs: `same MOST CODEC BYTES and CODEC BYTES`.
-pub fn compare<X: BlockHash, L: Ledger>(
-    alloc: Global,
-    stores: (&mut MemStore<X>, &mut MemStore<X>),
+// Compares the two stores below two CIDs, of at most MOST CIDs: `same MOST CODEC BYTES and CODEC BYTES`.
+fn compare<X: BlockHash, L: Ledger>(
+    scene: &mut Scene<X>,
     rest: &str,
     told: &mut Block,
     touches: &mut Steps<L>,
 ) -> Result<(), Memory> {
+    let alloc = scene.alloc;
     let (most, rest) = number_and_rest(rest);
     let (first, second) = rest.split_once(" and ").unwrap_or((rest, rest));
     let left = cid_in::<X>(alloc, first)?;
     let right = cid_in::<X>(alloc, second)?;
-    let (one, two) = stores;
+    let (one, two) = scene.both();
     match same(alloc, one, two, &left, &right, small(most), touches) {
         Ok(found) => say_compared(alloc, &found, told),
         Err(fault) => say_same_fault(alloc, &fault, told),
@@ -240,19 +213,18 @@ pub fn compare<X: BlockHash, L: Ledger>(
 
 /// Makes a call; whether the word names one of these.
 pub fn call<X: BlockHash, L: Ledger>(
-    alloc: Global,
-    store: &mut MemStore<X>,
-    input: &mut Block,
-    line: &str,
+    scene: &mut Scene<X>,
+    word: &str,
+    rest: &str,
     told: &mut Block,
     touches: &mut Steps<L>,
 ) -> Result<bool, Memory> {
-    let (word, rest) = word_and_rest(line);
     match word {
-        "import" => read_car(alloc, store, input.as_slice(), rest, told, touches)?,
-        "export" => write_car(alloc, store, rest, told, touches)?,
-        "pull" => pull_from(alloc, store, input.as_slice(), rest, told, touches)?,
-        "serve" => serve_to(alloc, store, input, rest, told, touches)?,
+        "import" => read_car(scene, rest, told, touches)?,
+        "export" => write_car(scene, rest, told, touches)?,
+        "pull" => pull_from(scene, rest, told, touches)?,
+        "serve" => serve_to(scene, rest, told, touches)?,
+        "same" => compare(scene, rest, told, touches)?,
         _ => return Ok(false),
     }
     Ok(true)

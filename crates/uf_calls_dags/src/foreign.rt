@@ -3,21 +3,14 @@
 use std::alloc::Global;
 use std::sync::ledger::Ledger;
 use uf_cid::{Block, BlockHash, Cid, Memory};
-use uf_edge::{Calls, MemSink};
 use uf_lenient::{DagFault, Limits, Shape, StreamFault, shallow, stream, survey};
-use uf_playing::{cid_of, say_cid, say_fault, small};
-use uf_store::{MemStore, Steps};
-use uf_testing::{number_and_rest, say, tell_bytes, word_and_rest};
+use uf_playing::{Scene, cid_of, say_about, say_fault, say_number, small};
+use uf_store::Steps;
+use uf_testing::{say, sink, tell_bytes, two_numbers_and_rest};
 use uf_tree::Meta;
 
-// Says a word and the CID that it is about.
-fn say_about(told: &mut Block, word: &str, cid: &Cid) -> Result<(), Memory> {
-    say(told, word)?;
-    say_cid(told, cid)
-}
-
-/// Says why a DAG can't be read.
-pub fn say_dag_fault(alloc: Global, fault: &DagFault, told: &mut Block) -> Result<(), Memory> {
+// Says why a DAG can't be read.
+fn say_dag_fault(alloc: Global, fault: &DagFault, told: &mut Block) -> Result<(), Memory> {
     match fault {
         DagFault::NotUnixfs(cid, why) => {
             let line = format!(in alloc; "not unixfs: {why}")?;
@@ -52,8 +45,7 @@ fn say_shape(
             say_meta(alloc, meta, told)
         }
         Ok(Shape::Folder(meta, ways)) => {
-            let line = format!(in alloc; "a directory of {}", ways.len())?;
-            say(told, line.as_str())?;
+            say_number(alloc, told, "a directory of", ways.len() as u64)?;
             say_meta(alloc, meta, told)
         }
         Err(fault) => say_dag_fault(alloc, fault, told),
@@ -62,25 +54,30 @@ fn say_shape(
 
 // The bytes of a file, into room for a thousand.
 fn stream_file<X: BlockHash, L: Ledger>(
-    alloc: Global,
-    store: &mut MemStore<X>,
+    scene: &mut Scene<X>,
     cid: &Cid,
     limits: &Limits,
     told: &mut Block,
     touches: &mut Steps<L>,
 ) -> Result<(), Memory> {
-    let mut sink = MemSink::new(alloc, 1000, Calls::new(alloc))?;
-    match stream(alloc, store, cid, limits, &mut sink, touches) {
-        Ok(_) => tell_bytes(told, alloc, b"> ", sink.bytes()),
+    let mut output = sink(scene.alloc, 1000, None)?;
+    match stream(
+        scene.alloc,
+        &mut scene.store,
+        cid,
+        limits,
+        &mut output,
+        touches,
+    ) {
+        Ok(_) => tell_bytes(told, scene.alloc, b"> ", output.bytes()),
         Err(StreamFault::Sink) => say(told, "output"),
-        Err(StreamFault::Dag(fault)) => say_dag_fault(alloc, &fault, told),
+        Err(StreamFault::Dag(fault)) => say_dag_fault(scene.alloc, &fault, told),
     }
 }
 
 // Reads what is below a CID: everything, one directory, or the bytes of a file.
 fn read<X: BlockHash, L: Ledger>(
-    alloc: Global,
-    store: &mut MemStore<X>,
+    scene: &mut Scene<X>,
     word: &str,
     what: (&Cid, &Limits),
     told: &mut Block,
@@ -88,31 +85,35 @@ fn read<X: BlockHash, L: Ledger>(
 ) -> Result<(), Memory> {
     let (cid, limits) = what;
     match word {
-        "survey" => say_shape(alloc, &survey(alloc, store, cid, limits, touches), told),
-        "shallow" => say_shape(alloc, &shallow(alloc, store, cid, limits, touches), told),
-        _ => stream_file(alloc, store, cid, limits, told, touches),
+        "survey" => {
+            let shape = survey(scene.alloc, &mut scene.store, cid, limits, touches);
+            say_shape(scene.alloc, &shape, told)
+        }
+        "shallow" => {
+            let shape = shallow(scene.alloc, &mut scene.store, cid, limits, touches);
+            say_shape(scene.alloc, &shape, told)
+        }
+        _ => stream_file(scene, cid, limits, told, touches),
     }
 }
 
 /// Makes a call `survey`, `shallow` or `stream`, after which the depth, the visits and a CID stand; whether the word
 /// names one of these.
 pub fn call<X: BlockHash, L: Ledger>(
-    alloc: Global,
-    store: &mut MemStore<X>,
-    line: &str,
+    scene: &mut Scene<X>,
+    word: &str,
+    rest: &str,
     told: &mut Block,
     touches: &mut Steps<L>,
 ) -> Result<bool, Memory> {
-    let (word, rest) = word_and_rest(line);
     if word != "survey" && word != "shallow" && word != "stream" {
         return Ok(false);
     }
-    let (depth, rest) = number_and_rest(rest);
-    let (visits, text) = number_and_rest(rest);
+    let (depth, visits, text) = two_numbers_and_rest(rest);
     let limits = Limits {
         depth: small(depth),
         visits: small(visits),
     };
-    read(alloc, store, word, (&cid_of(text), &limits), told, touches)?;
+    read(scene, word, (&cid_of(text), &limits), told, touches)?;
     Ok(true)
 }

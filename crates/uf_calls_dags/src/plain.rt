@@ -1,11 +1,11 @@
 //! Calls on what is said of the tree with no store.
 
+use crate::dirs::name_of;
 use std::alloc::Global;
 use uf_cid::{Block, Cid, Codec, Memory, Sha256Hash};
 use uf_path::Path;
 use uf_plain::{Refused, Row, Rows, Rule, rule_at};
 use uf_testing::{number_and_rest, say, word_and_rest};
-use uf_tree::Name;
 
 // The text of a rule about a path.
 fn text_of(rule: &Rule) -> &str {
@@ -29,10 +29,8 @@ fn tell_rule(alloc: Global, rest: &str, told: &mut Block) -> Result<(), Memory> 
 // Puts a row after others.
 fn add_row(alloc: Global, rows: &mut Rows, text: &str, size: u64) -> Result<(), Memory> {
     let cid = Cid::of::<Sha256Hash>(Codec::Raw, b"hello world");
-    match Name::parse(alloc, text) {
-        Ok(name) => rows.push(Row { name, cid, size }),
-        Err(_) => Err(Memory),
-    }
+    let name = name_of(alloc, text)?;
+    rows.push(Row { name, cid, size })
 }
 
 fn tell_row(alloc: Global, row: &Row, told: &mut Block) -> Result<(), Memory> {
@@ -63,8 +61,7 @@ fn copy_rows(alloc: Global, rest: &str, told: &mut Block) -> Result<(), Memory> 
 }
 
 /// Makes a call; whether the word names one of these.
-pub fn call(alloc: Global, line: &str, told: &mut Block) -> Result<bool, Memory> {
-    let (word, rest) = word_and_rest(line);
+pub fn call(alloc: Global, word: &str, rest: &str, told: &mut Block) -> Result<bool, Memory> {
     match word {
         "rule" => tell_rule(alloc, rest, told)?,
         "rows" => copy_rows(alloc, rest, told)?,

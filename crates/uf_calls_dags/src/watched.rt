@@ -11,6 +11,7 @@ use uf_store::{Load, MemStore, Note, NoteRead, Presence, Save, Steps, Store};
 /// A store in memory, how often it was touched, and what it was told of.
 #[derive(Drop)]
 pub struct Watched<X: BlockHash> {
+    pub alloc: Global,
     inner: MemStore<X>,
     pub touches: u64,
     pub told: Cids,
@@ -20,6 +21,7 @@ impl<X: BlockHash> Watched<X> {
     /// A store that holds nothing.
     pub fn new(alloc: Global) -> Self {
         Watched::<X> {
+            alloc,
             inner: MemStore::new(alloc),
             touches: 0,
             told: Cids::new(alloc),

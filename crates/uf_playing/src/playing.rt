@@ -1,13 +1,14 @@
 //! The parts of a transcript, and their lines.
 
 use crate::scene::{Scene, set};
+use crate::stores::call_memory;
 use std::alloc::Global;
 use std::sync::ledger::Ledger;
 use uf_cid::{Block, BlockHash, Memory, Sha256Hash, Sum8Hash};
 use uf_store::Steps;
 use uf_testing::{Sheet, begins_row, ends_part, say, word_and_rest};
 
-/// The calls that a program makes.
+/// The calls that a program makes beside those of a store.
 pub trait Caller {
     /// Makes the call of a line, and reports what comes of it; whether the line names one of these calls.
     fn call<X: BlockHash, L: Ledger>(
@@ -19,15 +20,17 @@ pub trait Caller {
 }
 
 /// How a program plays the parts of a transcript.
-pub trait Player {
-    /// Plays a part over a scene in which there is nothing.
+pub trait Player: Caller {
+    /// Plays a part over a scene in which there is nothing: each line over what the one before left.
     fn play<X: BlockHash, L: Ledger>(
         scene: &mut Scene<X>,
         title: &str,
         part: &str,
         sheet: &mut Sheet,
         touches: &mut Steps<L>,
-    ) -> Result<(), Memory>;
+    ) -> Result<(), Memory> {
+        play_lines::<Self, X, L>(scene, title, part, sheet, touches)
+    }
 }
 
 // Makes a call, and reports what comes of it.
@@ -37,7 +40,9 @@ fn call<C: Caller, X: BlockHash, L: Ledger>(
     told: &mut Block,
     touches: &mut Steps<L>,
 ) -> Result<(), Memory> {
-    if C::call::<X, L>(scene, line, told, touches)? {
+    let is_made = call_memory(scene.alloc, &mut scene.store, line, told, touches)?
+        || C::call::<X, L>(scene, line, told, touches)?;
+    if is_made {
         Ok(())
     } else {
         say(told, "no such call")

@@ -1,7 +1,8 @@
 //! Calls of stores.
 ghost use Rattle.std.specs.Prelude.{◌≤◌, length};
 
-use crate::values::{codec_of, say_cid, size_of};
+use crate::saying::{say_about, say_cid, say_debug};
+use crate::values::{codec_of, size_of};
 use std::alloc::Global;
 use std::sync::ledger::Ledger;
 use uf_cid::{Block, BlockHash, Cid, Cids, Codec, Memory};
@@ -25,22 +26,14 @@ pub fn cid_in<X: BlockHash>(alloc: Global, rest: &str) -> Result<Cid, Memory> {
 pub fn say_fault(alloc: Global, fault: &StoreFault, told: &mut Block) -> Result<(), Memory> {
     match fault {
         StoreFault::Failed => say(told, "the store failed"),
-        StoreFault::Damaged(cid) => {
-            say(told, "damaged")?;
-            say_cid(told, cid)
-        }
-        StoreFault::Missing(cid) => {
-            say(told, "missing")?;
-            say_cid(told, cid)
-        }
+        StoreFault::Damaged(cid) => say_about(told, "damaged", cid),
+        StoreFault::Missing(cid) => say_about(told, "missing", cid),
         StoreFault::BadBlock(cid, role) => {
             let line = format!(in alloc; "bad {role:?}")?;
-            say(told, line.as_str())?;
-            say_cid(told, cid)
+            say_about(told, line.as_str(), cid)
         }
         StoreFault::Clash(cid, held, bytes) => {
-            say(told, "clash")?;
-            say_cid(told, cid)?;
+            say_about(told, "clash", cid)?;
             tell_bytes(told, alloc, b"> ", held.as_slice())?;
             tell_bytes(told, alloc, b"> ", bytes.as_slice())
         }
@@ -75,8 +68,7 @@ fn look<S: Store, L: Ledger>(
 ) -> Result<(), Memory> {
     let (word, cid) = what;
     if word == "load" {
-        let line = format!(in alloc; "{:?}", store.load(cid, touches))?;
-        return say(told, line.as_str());
+        return say_debug(alloc, told, &store.load(cid, touches));
     }
     match need(store, cid, touches) {
         Ok(()) => tell_bytes(told, alloc, b"> ", store.block()),
@@ -166,8 +158,7 @@ pub fn sweep<S: Sweep>(
     told: &mut Block,
 ) -> Result<(), Memory> {
     let kept = nodes_of::<S::X>(alloc, rest)?;
-    let line = format!(in alloc; "{:?}", store.sweep(&kept))?;
-    say(told, line.as_str())
+    say_debug(alloc, told, &store.sweep(&kept))
 }
 
 // A call of a store that keeps nothing.

@@ -1,9 +1,9 @@
 //! Numbers, CIDs and sources that lines name. A number of a call that is to fail is counted from 1; 0 is none.
 
 use std::alloc::Global;
-use uf_cid::{Block, Cid, Codec, Memory, Sha256Hash};
+use uf_cid::{Cid, Codec, Memory, Sha256Hash};
 use uf_edge::MemSource;
-use uf_testing::{block_of, calls, say};
+use uf_testing::{block_of, calls};
 
 /// The codec that a word names.
 pub fn codec_of(word: &str) -> Codec {
@@ -30,11 +30,6 @@ pub fn cid_of(text: &str) -> Cid {
         Ok(cid) => cid,
         Err(_) => Cid::of::<Sha256Hash>(Codec::Raw, b""),
     }
-}
-
-/// Says a CID.
-pub fn say_cid(told: &mut Block, cid: &Cid) -> Result<(), Memory> {
-    say(told, str::from_utf8(&cid.text()).unwrap_or("?"))
 }
 
 /// The call that is to fail, as streams count it.

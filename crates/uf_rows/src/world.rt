@@ -150,8 +150,8 @@ pub fn words_in(alloc: Global, line: &str) -> Result<Vec<String>, Memory> {
     words_of(alloc, whole.as_str())
 }
 
-/// How words are done: as a command, over a host of devices alone, or not at all, but the lines of the input as a batch
-/// of at most this many bytes.
+/// How words are done: as a command, over a host of devices alone, or not at all, but the lines of the input as a
+/// batch of at most this many bytes.
 #[derive(Clone, Copy)]
 pub enum Way {
     Command,

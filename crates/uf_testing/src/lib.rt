@@ -14,4 +14,4 @@ pub use hosts::{is_member, path_of, plant};
 pub use sheet::{Sheet, begins_row, ends_part};
 pub use streams::{ROOMY, Streams, block_of, calls, plant_node, sink, source};
 pub use telling::{say, say_digits, tell_bytes, tell_count};
-pub use words::{number_and_rest, number_of, word_and_rest, words_of};
+pub use words::{number_and_rest, number_of, two_numbers_and_rest, word_and_rest, words_of};

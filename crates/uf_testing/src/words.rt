@@ -19,6 +19,13 @@ pub fn number_and_rest(line: &str) -> (u64, &str) {
     (number_of(first), rest)
 }
 
+/// The first two words of a line as numbers, and what follows them.
+pub fn two_numbers_and_rest(line: &str) -> (u64, u64, &str) {
+    let (first, rest) = number_and_rest(line);
+    let (second, rest) = number_and_rest(rest);
+    (first, second, rest)
+}
+
 /// The words of a line, which end at tabs where it has some.
 pub fn words_of(alloc: Global, line: &str) -> Result<Vec<String>, Memory> {
     let end = if line.contains('\t') { '\t' } else { ' ' };

@@ -571,8 +571,8 @@ fn first_wrong<L: Ledger, R: Files + RandomSource>(
     Ok(None)
 }
 
-// The first table that isn't right, whether that of clashes is, and the first calls of the machine whose failure a sweep
-// or a write doesn't survive.
+// The first table that isn't right, whether that of clashes is, and the first calls of the machine whose failure a
+// sweep or a write doesn't survive.
 fn outcome_by<L: Ledger, R: Files + RandomSource>(
     alloc: Global,
     files: &R,
