@@ -69,7 +69,7 @@ none-held : (told : Told) → Holds told []
 none-held None = tt
 none-held (Some t) = tt
 
-laid-new : (offset : ℕ) (x : List ℕ) (n : ℕ) → n ≡ offset + length x → 1 ≤ length x → overlaid n [] offset x ≡ laid [] offset x
+pub laid-new : (offset : ℕ) (x : List ℕ) (n : ℕ) → n ≡ offset + length x → 1 ≤ length x → overlaid n [] offset x ≡ laid [] offset x
 laid-new offset x n is some = ap (λ k. overlaid k [] offset x) (let e : n ≡ max 0 (offset + length x) = omega arith in e) ∙ changed-laid [] offset x some
 
 pub made-file : (X : List ℕ → List ℕ) (p : Profile) (m : Meta) (now : Told) (e : Entry) (n offset : ℕ) (x : List ℕ) → GivesFile X p m now [] e (overlaid n [] offset x) → n ≡ offset + length x → 1 ≤ length x

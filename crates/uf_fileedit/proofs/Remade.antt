@@ -289,7 +289,7 @@ module _ (X : List ℕ → List ℕ) (good : IsHash X) (p : Profile) (ok : IsTru
     abbrev behind : List ℕ
     behind = overlaid (size - count) [] (offset - count) (take (length piece - cut) (drop cut piece))
 
-    grown_groups : groups (span p.chunk p.width h) (overlaid size b offset piece) ≡ front ∷ groups (span p.chunk p.width h) behind
+    pub grown_groups : groups (span p.chunk p.width h) (overlaid size b offset piece) ≡ front ∷ groups (span p.chunk p.width h) behind
     grown_groups =
         sym (later-some (span p.chunk p.width h) size b offset piece (omega arith))
         ∙ later-one (span p.chunk p.width h) size count b offset piece some_span (omega arith) (let e = counted in omega arith)
@@ -317,7 +317,7 @@ module _ (X : List ℕ → List ℕ) (good : IsHash X) (p : Profile) (ok : IsTru
 
 -- where the old parts are as high as the row
 module _ (X : List ℕ → List ℕ) (p : Profile) (top h : ℕ) (low : h < top) where
-  base_at : (olds : List Part) (gs : List (List ℕ)) → AreOld X p (span p.chunk p.width (min (top - 1) h)) (min (top - 1) h) olds gs → AreOld X p (span p.chunk p.width h) (min top h) olds gs
+  pub base_at : (olds : List Part) (gs : List (List ℕ)) → AreOld X p (span p.chunk p.width (min (top - 1) h)) (min (top - 1) h) olds gs → AreOld X p (span p.chunk p.width h) (min top h) olds gs
   base_at olds gs are =
       subst (λ k. AreOld X p (span p.chunk p.width k) (min top h) olds gs) (let e : min (top - 1) h ≡ h = omega arith in e)
       (subst (λ k. AreOld X p (span p.chunk p.width (min (top - 1) h)) k olds gs) (let e : min (top - 1) h ≡ min top h = omega arith in e) are)

@@ -13,9 +13,11 @@ use Rattle.uf_store.specs.Contents.{Told, held_at}
 use Rattle.uf_store.specs.Faults.{Answers, NoneIsBad, Shows, StaysCalm}
 use Rattle.uf_store.specs.declared.store.Role.{Role}
 use Rattle.uf_store.proofs.Causes.{Shows-after, Shows-any, StaysCalm-trans}
+use Rattle.uf_store.specs.Among.{SavesAmong}
 use Rattle.uf_store.specs.Keeping.{Agrees, Holds, KeepsGood}
 use Rattle.uf_store.specs.Lost.{IsLossOf}
 use Rattle.uf_store.specs.Writing.{IsSave, SavesOnly}
+use Rattle.uf_store.proofs.Among.{SavesAmong-trans}
 use Rattle.uf_store.proofs.Writing.{Wrote-good, agrees-between}
 use Rattle.uf_store.specs.Seen.{Seen}
 use Rattle.std.proofs.lemmas.Bool.Decides.{nat_tests}
@@ -31,6 +33,7 @@ use Rattle.uf_tree.specs.Validity.{IsHash}
 use Rattle.uf_tree.proofs.Valid.{sub-size}
 use Rattle.uf_fileedit.specs.Changes.{AreCut, AreOld, FitsOld, GivesPart, GivesAll, IsBelow, IsBlank, IsIn, IsKnown, IsOld, IsOldPart, HasSize, LiesWithin, blocks_of_all, overlaid, old_blocks}
 use Rattle.uf_fileedit.specs.Edits.{cut_to}
+use Rattle.uf_fileedit.proofs.Among.{in-part, saves-more}
 use Rattle.uf_fileedit.proofs.Bytes.{at-front, changed-cut, changed-nothing, changed-over, changed-same, later, later-one, later-some, length-changed}
 use Rattle.uf_fileedit.proofs.Kept.{agrees-among, over-good, all-append, all-good, in-back, in-front, known-among, known-held, known-later, known-old, loss-among}
 use Rattle.uf_fileedit.proofs.Old.{need_lost, pos}
@@ -228,7 +231,7 @@ leaf-small p zero size ok has e = let short : p.chunk ≤ 1048576 = (kept p ok).
 leaf-small p (suc k) size ok has e = absurd (omega arith)
 
 -- where a piece is written, if there is one, it is within
-same-place : (size offset : ℕ) (b piece : List ℕ) → LiesWithin size offset piece → overlaid size b (min offset size) piece ≡ overlaid size b offset piece
+pub same-place : (size offset : ℕ) (b piece : List ℕ) → LiesWithin size offset piece → overlaid size b (min offset size) piece ≡ overlaid size b offset piece
 same-place size offset b [] within = changed-nothing size b (min offset size) ∙ sym (changed-nothing size b offset)
 same-place size offset b (z ∷ x) within = ap (λ n. overlaid size b n (z ∷ x)) (let inside : offset + length (z ∷ x) ≤ size = within (omega arith) in let e : min offset size ≡ offset = omega arith in e)
 
@@ -377,6 +380,31 @@ module _ (X : List ℕ → List ℕ) (good : IsHash X) (p : Profile) (ok : IsTru
           loss-among next (old_blocks X p (min top k) old (get_or gs at [])) (blocks_of_all X p (min top k) gs) fault child.1
           (lost (get_or gs at []) child.0 (agrees-among mid (old_blocks X p (min top k) old (get_or gs at [])) (blocks_of_all X p (min top k) gs) child.1 (agrees-mid a c))
           (agrees-among next (old_blocks X p (min top k) old (get_or gs at [])) (blocks_of_all X p (min top k) gs) child.1 c))
+
+      -- what is saved of one part more is of the row
+      pub turn-saves : Agrees first (blocks_of_all X p (min top k) gs) → Agrees next (blocks_of_all X p (min top k) gs)
+          → (Agrees mid (blocks_of_all X p (min top k) gs) → Progress X p (span p.chunk p.width k) (min top k) k gs size offset piece mid news left at place rest)
+          → (Agrees mid (blocks_of_all X p (min top k) gs) → SavesAmong X (blocks_of_all X p k (groups (span p.chunk p.width k) (overlaid size (joined gs) offset piece))) first mid)
+          → ((b : List ℕ) → IsOld X p (min top k) old b → Agrees mid (old_blocks X p (min top k) old b) → Agrees next (old_blocks X p (min top k) old b)
+          → SavesAmong X (blocks_over X p.chunk p.width k (overlaid count b place (take cut rest))) mid next)
+          → SavesAmong X (blocks_of_all X p k (groups (span p.chunk p.width k) (overlaid size (joined gs) offset piece))) first next
+      turn-saves a c progressed saved saves_one =
+          let all = blocks_of_all X p (min top k) gs in
+          let row = blocks_of_all X p k (groups (span p.chunk p.width k) (overlaid size (joined gs) offset piece)) in
+          let at_mid = agrees-mid a c in
+          let progress = progressed at_mid in
+          let front = at-front (span p.chunk p.width k) at gs are.cut in
+          let group = overlaid count (get_or gs at []) place (take cut rest) in
+          let behind = later (span p.chunk p.width k) (left - count) (drop (span p.chunk p.width k) (joined (drop at gs))) (place - count) (drop (count - place) rest) in
+          let one : later (span p.chunk p.width k) left (joined (drop at gs)) place rest ≡ group ∷ behind
+          = later-one (span p.chunk p.width k) left count (joined (drop at gs)) place rest pos_s some counted
+          ∙ ap (λ l. overlaid count l place (take (count - place) rest) ∷ behind) front.0 ∙ ap (λ l. overlaid count (get_or gs at []) place l ∷ behind) (sym cut-take) in
+          let whole : groups (span p.chunk p.width k) (overlaid size (joined gs) offset piece) ≡ progress.done ++ group ∷ behind = progress.whole ∙ ap (λ l. progress.done ++ l) one in
+          let olds = old_blocks X p (min top k) old (get_or gs at []) in
+          let here : SavesAmong X (blocks_over X p.chunk p.width k group) mid next = saves_one (get_or gs at []) child.0 (agrees-among mid olds all child.1 at_mid) (agrees-among next olds all child.1 c) in
+          SavesAmong-trans X row first mid next (saved at_mid)
+          (subst (λ l. SavesAmong X (blocks_of_all X p k l) mid next) (sym whole)
+          (saves-more X (blocks_over X p.chunk p.width k group) (blocks_of_all X p k (progress.done ++ group ∷ behind)) mid next (λ x h. in-part (blocks_over X p.chunk p.width k) progress.done group behind x h) here))
 
       module _ (blank blank_now : Option Part) (m : Part) (blank_is : (blank_now ≡ blank) ⊎ ((blank_now ≡ Some m) × (old ≡ None) × (cut ≡ 0))) (m_size : m.size ≡ count)
           (gives : (b : List ℕ) → IsOld X p (min top k) old b → IsBlank X p mid k blank → Agrees mid (old_blocks X p (min top k) old b) → Agrees next (old_blocks X p (min top k) old b)

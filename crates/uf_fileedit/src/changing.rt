@@ -8,6 +8,7 @@ ghost use Rattle.uf_fileedit.specs.Touches.{Climbs, IsLeft};
 ghost use Rattle.uf_fileedit.specs.Layers.{AreNoMore, CostsChange, CostsParts, FindsFront, OfChange, ReadsOld};
 ghost use Rattle.uf_fileedit.specs.Layers.{RemakesBeside, RemakesPart, RemakesParts, SavesAmongOld, SavesIn};
 ghost use Rattle.uf_fileedit.specs.Layers.{StandsIn, room_at};
+ghost use Rattle.uf_fileedit.specs.Saving.{SavesOfPart, SavesOfParts};
 
 use crate::layout::{Layer, span_of};
 use crate::leaves::change_leaf;
@@ -83,6 +84,8 @@ pub fn change<S: Store, L: Ledger>(
     ensures left { IsLeft layer.top layer.height target.size target.old → length piece.now ≡ 0
         → (S.seen store.new).told ≡ (S.seen store.old).told }
     ensures saves { SavesIn S.X.block32 layer layer.height target.old (S.seen store.old) (S.seen store.new) result }
+    ensures no_other { SavesOfPart S.X.block32 layer layer.height target piece.now (S.seen store.old)
+        (S.seen store.new) }
     ensures rises { Climbs result touches.old touches.new }
     ensures touches { CostsChange layer layer.height target piece.now touches.old touches.new }
 {
@@ -138,6 +141,8 @@ fn change_node<S: Store, L: Ledger>(
         (S.seen store.new) result }
     ensures saves { SavesIn S.X.block32 layer (layer.height + 1) target.old (S.seen store.old) (S.seen store.new)
         result }
+    ensures no_other { SavesOfPart S.X.block32 layer (layer.height + 1) target piece.now (S.seen store.old)
+        (S.seen store.new) }
     ensures rises { Climbs result touches.old touches.new }
     ensures touches { OfChange layer (layer.height + 1) target piece.now (λ a z. a < z
         → touches.new ≤ touches.old + 2 * (layer.height + 1 + 1) * (z - a)) }
@@ -170,6 +175,8 @@ pub fn change_parts<S: Store, L: Ledger>(
         result }
     ensures saves { SavesAmongOld S.X.block32 layer.p layer.rows (min layer.top layer.height) olds.now
         (S.seen store.old) (S.seen store.new) result }
+    ensures no_other { SavesOfParts S.X.block32 layer olds.now target piece.now (S.seen store.old)
+        (S.seen store.new) }
     ensures rises { Climbs result touches.old touches.new }
     ensures touches { CostsParts layer target olds.now piece.now touches.old touches.new }
 {
@@ -218,6 +225,8 @@ fn change_one<S: Store, L: Ledger>(
     ensures gives { RemakesBeside S.X.block32 layer blank target piece.now (S.seen store.old) (S.seen store.new)
         result }
     ensures saves { SavesIn S.X.block32 layer layer.height target.old (S.seen store.old) (S.seen store.new) result }
+    ensures no_other { SavesOfPart S.X.block32 layer layer.height target piece.now (S.seen store.old)
+        (S.seen store.new) }
     ensures rises { Climbs result touches.old touches.new }
     ensures touches { CostsChange layer layer.height target piece.now touches.old touches.new }
 {

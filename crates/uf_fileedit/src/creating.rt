@@ -2,16 +2,19 @@
 ghost use Rattle.std.specs.Prelude.{◌≡◌, ◌+◌, ◌-◌, ◌*◌, ◌<◌, ◌≤◌, ◌^◌, [], length, min, IfOk, IsTrue, None};
 ghost use Rattle.std.specs.List.{sum_by};
 ghost use Rattle.uf_cid.specs.declared.cid.Cid.{Cid as TheCid};
+ghost use Rattle.uf_store.specs.Among.{SavesAmong};
 ghost use Rattle.uf_store.specs.Keeping.{KeepsGood};
 ghost use Rattle.uf_store.specs.Writing.{SavesOnly};
+ghost use Rattle.uf_tree.specs.FilePlan.{file_plan};
 ghost use Rattle.uf_tree.specs.Metas.{is_meta};
 ghost use Rattle.uf_tree.specs.Profiles.{is_profile, most_bytes};
-ghost use Rattle.uf_fileedit.specs.Changes.{LiesWithin};
+ghost use Rattle.uf_fileedit.specs.Changes.{LiesWithin, overlaid};
 ghost use Rattle.uf_fileedit.specs.Edits.{laid};
 ghost use Rattle.uf_fileedit.specs.Touches.{Climbs, TouchedFirst};
 ghost use Rattle.uf_fileedit.specs.Files.{CostsCreate, CostsNewFile, GivesNewFile, HoldsNewFile, MakesNewFile};
 ghost use Rattle.uf_fileedit.specs.Files.{RefusesLongWrite, SavesNewFile, ShowsInEdited};
 ghost use Rattle.uf_fileedit.specs.Layers.{CostsNewParts, MakesNewParts, SavesAmongOld, room_at};
+ghost use Rattle.uf_fileedit.specs.Saving.{blocks_changed};
 
 use crate::changing::{PartEdit, change_parts};
 use crate::layout::{Layer, heights_of};
@@ -46,6 +49,9 @@ pub fn create<S: Store, L: Ledger>(
         result }
     ensures good { KeepsGood S.X.block32 (S.seen store.old).told (S.seen store.new).told }
     ensures saves { SavesOnly S.X.block32 (S.seen store.old).told (S.seen store.new).told }
+    ensures no_other { SavesAmong S.X.block32
+        (file_plan S.X.block32 p.now meta.now (laid [] offset piece.now)).blocks
+        (S.seen store.old).told (S.seen store.new).told }
     ensures touched { TouchedFirst result touches.old touches.new }
     ensures touches { CostsCreate p.now meta.now offset piece.now touches.old touches.new }
 {
@@ -83,11 +89,15 @@ fn save_new<S: Store, L: Ledger>(
     requires profile { IsTrue (is_profile p.now) }
     requires good { IsTrue (is_meta meta.now) }
     requires old { target.old ≡ None }
+    requires early { 1 ≤ target.size → target.offset ≤ target.size }
     requires small { target.size < 2 ^ 63 }
     requires within { LiesWithin target.size target.offset piece.now }
     ensures gives { GivesNewFile S.X.block32 p.now meta.now target piece.now (S.seen store.old) (S.seen store.new)
         result }
     ensures saves { SavesNewFile S.X.block32 p.now (S.seen store.old) (S.seen store.new) result }
+    ensures no_other { SavesAmong S.X.block32
+        (file_plan S.X.block32 p.now meta.now (overlaid target.size [] target.offset piece.now)).blocks
+        (S.seen store.old).told (S.seen store.new).told }
     ensures rises { Climbs result touches.old touches.new }
     ensures touches { CostsNewFile p.now target piece.now touches.old touches.new }
 {
@@ -115,6 +125,7 @@ fn new_parts<S: Store, L: Ledger>(
 ) -> Result<Parts, StoreFault>
     requires profile { IsTrue (is_profile layer.p) }
     requires old { target.old ≡ None }
+    requires early { 1 ≤ target.size → target.offset ≤ target.size }
     requires fits { target.size ≤ room_at layer.p (layer.height + 1) }
     requires small { target.size < 2 ^ 63 }
     requires low { target.size ≡ 0 → layer.height ≡ 0 }
@@ -125,6 +136,8 @@ fn new_parts<S: Store, L: Ledger>(
     ensures gives { MakesNewParts S.X.block32 layer target piece.now (S.seen store.old) (S.seen store.new) result }
     ensures saves { SavesAmongOld S.X.block32 layer.p layer.rows (min layer.top layer.height) [] (S.seen store.old)
         (S.seen store.new) result }
+    ensures no_other { SavesAmong S.X.block32 (blocks_changed S.X.block32 layer target [] piece.now)
+        (S.seen store.old).told (S.seen store.new).told }
     ensures rises { Climbs result touches.old touches.new }
     ensures touches { CostsNewParts layer target piece.now touches.old touches.new }
 {

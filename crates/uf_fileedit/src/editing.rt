@@ -11,6 +11,7 @@ ghost use Rattle.uf_fileedit.specs.Touches.{Climbs, TouchedFirst};
 ghost use Rattle.uf_fileedit.specs.Files.{AgreesWithEdited, CostsCut, CostsEdit, CostsWrite, EditsFile, GivesEdited};
 ghost use Rattle.uf_fileedit.specs.Files.{HoldsEdited, LeavesSame, OfAgreed, RefusesLongWrite, SavesInFile};
 ghost use Rattle.uf_fileedit.specs.Files.{ShowsInEdited, bytes_edited};
+ghost use Rattle.uf_fileedit.specs.Saving.{SavesOfEdited};
 
 use crate::changing::PartEdit;
 use crate::growing::remade;
@@ -44,6 +45,8 @@ pub fn write_at<S: Store, L: Ledger>(
     ensures cause { ShowsInEdited S.X.block32 p.now entry.now.cid (S.seen store.old) (S.seen store.new) result }
     ensures good { KeepsGood S.X.block32 (S.seen store.old).told (S.seen store.new).told }
     ensures saves { SavesOnly S.X.block32 (S.seen store.old).told (S.seen store.new).told }
+    ensures no_other { SavesOfEdited S.X.block32 p.now entry.now (λ b. laid b offset piece.now) (S.seen store.old)
+        (S.seen store.new) }
     ensures touched { TouchedFirst result touches.old touches.new }
     ensures touches { CostsWrite S.X.block32 p.now entry.now (S.seen store.old) offset piece.now touches.old
         touches.new }
@@ -85,6 +88,8 @@ pub fn truncate<S: Store, L: Ledger>(
     ensures cause { ShowsInEdited S.X.block32 p.now entry.now.cid (S.seen store.old) (S.seen store.new) result }
     ensures good { KeepsGood S.X.block32 (S.seen store.old).told (S.seen store.new).told }
     ensures saves { SavesOnly S.X.block32 (S.seen store.old).told (S.seen store.new).told }
+    ensures no_other { SavesOfEdited S.X.block32 p.now entry.now (λ b. cut_to b size) (S.seen store.old)
+        (S.seen store.new) }
     ensures touched { TouchedFirst result touches.old touches.new }
     ensures touches { CostsCut S.X.block32 p.now entry.now (S.seen store.old) size touches.old touches.new }
     ensures same { OfAgreed S.X.block32 p.now entry.now (S.seen store.old) (λ m b. length b ≡ size
@@ -126,6 +131,8 @@ fn edit<S: Store, L: Ledger>(
     ensures gives { GivesEdited S.X.block32 p.now entry.now (bytes_edited extent.wanted extent.offset piece.now)
         (S.seen store.old) (S.seen store.new) result }
     ensures saves { SavesInFile S.X.block32 p.now entry.now.cid (S.seen store.old) (S.seen store.new) result }
+    ensures no_other { SavesOfEdited S.X.block32 p.now entry.now (bytes_edited extent.wanted extent.offset piece.now)
+        (S.seen store.old) (S.seen store.new) }
     ensures touched { Climbs result touches.old touches.new }
     ensures touches { CostsEdit S.X.block32 p.now entry.now (S.seen store.old) extent.wanted extent.offset piece.now
         touches.old touches.new }

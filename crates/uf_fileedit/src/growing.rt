@@ -6,6 +6,8 @@ ghost use Rattle.uf_fileedit.specs.Changes.{HasSize, LiesWithin};
 ghost use Rattle.uf_fileedit.specs.Ways.{StandAmong};
 ghost use Rattle.uf_fileedit.specs.Layers.{AreNoMore, CostsGrown, CostsRemade, FindsFirst, ReadsAmong, RemakesGrown};
 ghost use Rattle.uf_fileedit.specs.Layers.{RemakesRoot, SavesAmongOld, StandBelowFirst, room_at};
+ghost use Rattle.uf_fileedit.specs.Saving.{SavesOfGrown, SavesOfRoot};
+ghost use Rattle.uf_fileedit.specs.Touches.{old_size};
 
 use crate::changing::{PartEdit, change_parts, front_of};
 use crate::layout::{Layer, span_of};
@@ -43,6 +45,7 @@ pub fn remade<S: Store, L: Ledger>(
     ensures gives { RemakesRoot S.X.block32 layer olds target piece.now (S.seen store.old) (S.seen store.new) result }
     ensures saves { SavesAmongOld S.X.block32 layer.p layer.rows (layer.top - 1) olds (S.seen store.old)
         (S.seen store.new) result }
+    ensures no_other { SavesOfRoot S.X.block32 layer olds target piece.now (S.seen store.old) (S.seen store.new) }
     ensures rises { touches.old ≤ touches.new }
     ensures touches { CostsRemade layer target olds piece.now touches.old touches.new }
 {
@@ -73,7 +76,7 @@ pub fn remade<S: Store, L: Ledger>(
 
 // Where zeros begin that fill a file: at the end of the old bytes.
 fn gap_start(target: PartEdit) -> u64
-    ensures { result ≤ target.size }
+    ensures { result ≡ min (old_size target.old) target.size }
 {
     match target.old {
         Some(part) => part.size.min(target.size),
@@ -82,7 +85,10 @@ fn gap_start(target: PartEdit) -> u64
 }
 
 // Where zeros end that fill a file: before a piece, or at its end.
-fn gap_end(target: PartEdit, piece: &[u8]) -> u64 {
+fn gap_end(target: PartEdit, piece: &[u8]) -> u64
+    ensures filled { length piece.now ≡ 0 → result ≡ target.size }
+    ensures laid { 1 ≤ length piece.now → result ≡ target.offset }
+{
     if piece.is_empty() {
         target.size
     } else {
@@ -156,6 +162,8 @@ fn grown<S: Store, L: Ledger>(
         result }
     ensures saves { SavesAmongOld S.X.block32 layer.p layer.rows (min (layer.top - 1) layer.height) olds.now
         (S.seen store.old) (S.seen store.new) result }
+    ensures no_other { SavesOfGrown S.X.block32 layer olds.now target piece.now (S.seen store.old)
+        (S.seen store.new) }
     ensures rises { touches.old ≤ touches.new }
     ensures touches { CostsGrown layer target olds.now piece.now touches.old touches.new }
 {

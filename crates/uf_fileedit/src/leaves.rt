@@ -1,6 +1,7 @@
 //! Pieces of a file changed.
-ghost use Rattle.std.specs.Prelude.{◌≡◌, ◌+◌, ◌-◌, ◌<◌, ◌≤◌, ◌^◌, ◌++◌, [], ◌∷◌, length, take, drop, IfOk, OnOk};
+ghost use Rattle.std.specs.Prelude.{◌≡◌, ◌+◌, ◌-◌, ◌*◌, ◌<◌, ◌≤◌, ◌^◌, ◌++◌, [], ◌∷◌, length, take, drop, IfOk, OnOk};
 ghost use Rattle.std.specs.Prelude.{Some};
+ghost use Rattle.uf_store.specs.Among.{SavesAmong};
 ghost use Rattle.uf_store.specs.Keeping.{Holds};
 ghost use Rattle.uf_tree.specs.FilePlan.{leaf_held, leaf_part};
 ghost use Rattle.uf_tree.specs.declared.profile.Profile.{Profile};
@@ -9,6 +10,7 @@ ghost use Rattle.uf_fileedit.specs.Touches.{Climbs};
 ghost use Rattle.uf_fileedit.specs.Changes.{IsBlank, LiesWithin, overlaid};
 ghost use Rattle.uf_fileedit.specs.Layers.{LosesOneOld, LosesPiece, OfOldPiece, OfOneOld, ReadsPiece, RemakesPiece};
 ghost use Rattle.uf_fileedit.specs.Layers.{SavesBlocks, SavesPiece};
+ghost use Rattle.uf_fileedit.specs.Saving.{SavesOfPiece};
 
 use std::alloc::Global;
 use std::sync::ledger::Ledger;
@@ -32,6 +34,7 @@ pub fn change_leaf<S: Store, L: Ledger>(
     ensures size { IfOk result (λ m. m.size ≡ size) }
     ensures gives { RemakesPiece S.X.block32 old size offset piece.now (S.seen store.old) (S.seen store.new) result }
     ensures saves { SavesPiece S.X.block32 old (S.seen store.old) (S.seen store.new) result }
+    ensures no_other { SavesOfPiece S.X.block32 old size offset piece.now (S.seen store.old) (S.seen store.new) }
     ensures rises { Climbs result touches.old touches.new }
     ensures touches { touches.new ≤ touches.old + 2 }
 {
@@ -53,8 +56,10 @@ pub fn save_zeros<S: Store, L: Ledger>(
     requires few { chunk ≤ 1048576 }
     requires from { from < 2 ^ 63 }
     ensures blank { (p : Profile) → IfOk result (IsBlank S.X.block32 p (S.seen store.new).told 0) }
-    ensures none { to ≤ from → (S.seen store.new).told ≡ (S.seen store.old).told }
+    ensures none { to < from + 2 * chunk → (S.seen store.new).told ≡ (S.seen store.old).told }
     ensures saves { SavesBlocks S.X.block32 (S.seen store.old) (S.seen store.new) result }
+    ensures no_other { SavesAmong S.X.block32 (leaf_held S.X.block32 (overlaid chunk [] 0 []) ∷ [])
+        (S.seen store.old).told (S.seen store.new).told }
     ensures rises { touches.old ≤ touches.new }
     ensures touches { touches.new ≤ touches.old + 1 }
 {
@@ -77,6 +82,8 @@ fn save_leaf<S: Store, L: Ledger>(
     ensures part { IfOk result (λ m. m ≡ leaf_part S.X.block32 bytes.now) }
     ensures held { OnOk result (Holds (S.seen store.new).told (leaf_held S.X.block32 bytes.now ∷ [])) }
     ensures saves { SavesBlocks S.X.block32 (S.seen store.old) (S.seen store.new) result }
+    ensures no_other { SavesAmong S.X.block32 (leaf_held S.X.block32 bytes.now ∷ []) (S.seen store.old).told
+        (S.seen store.new).told }
     ensures touches { touches.new ≡ touches.old + 1 }
 {
     let size = bytes.len() as u64;

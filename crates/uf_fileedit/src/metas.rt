@@ -13,6 +13,7 @@ ghost use Rattle.uf_tree.specs.declared.meta.Meta.{Meta as TheMeta};
 ghost use Rattle.uf_tree.specs.declared.profile.Profile.{Profile};
 ghost use Rattle.uf_fileedit.specs.Touches.{Climbs};
 ghost use Rattle.uf_fileedit.specs.Files.{AgreesWithMeta, HoldsWithMeta, LeavesWithMeta, SetsMeta};
+ghost use Rattle.uf_fileedit.specs.Saving.{SavesOfMeta};
 
 use crate::root::{load_root, save_over};
 use std::alloc::Global;
@@ -57,6 +58,7 @@ pub fn set_meta<S: Store, L: Ledger>(
     ensures cause { Answers S.X.block32 IsBadRoot result (S.seen store.old) (S.seen store.new) }
     ensures good { KeepsGood S.X.block32 (S.seen store.old).told (S.seen store.new).told }
     ensures saves { SavesOnly S.X.block32 (S.seen store.old).told (S.seen store.new).told }
+    ensures no_other { SavesOfMeta S.X.block32 entry.now meta.now (S.seen store.old) (S.seen store.new) }
     ensures touched { Climbs result touches.old touches.new }
     ensures touches { touches.new ≤ touches.old + 2 }
     ensures same { LeavesWithMeta S.X.block32 entry.now meta.now (S.seen store.old) (S.seen store.new) }

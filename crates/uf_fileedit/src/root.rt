@@ -3,6 +3,7 @@ ghost use Rattle.std.specs.Prelude.{◌≡◌, ◌↔◌, ◌+◌, ◌<◌, ◌�
 ghost use Rattle.std.specs.List.{sum_by};
 ghost use Rattle.uf_cid.specs.declared.cid.Codec.TheVariants.{DagPb};
 ghost use Rattle.uf_fileread.specs.Bad.{IsBadRoot};
+ghost use Rattle.uf_store.specs.Among.{SavesAmong};
 ghost use Rattle.uf_store.specs.Faults.{Answers};
 ghost use Rattle.uf_store.specs.Keeping.{Holds};
 ghost use Rattle.uf_tree.specs.FilePlan.{top_held, top_part};
@@ -200,6 +201,8 @@ pub fn save_over<S: Store, L: Ledger>(
     ensures held { OnOk result (Holds (S.seen store.new).told (top_held S.X.block32 meta.now parts.now)) }
     ensures err { OnErr result ((S.seen store.new).told ≡ (S.seen store.old).told) }
     ensures saves { SavesBlocks S.X.block32 (S.seen store.old) (S.seen store.new) result }
+    ensures no_other { SavesAmong S.X.block32 (top_held S.X.block32 meta.now parts.now) (S.seen store.old).told
+        (S.seen store.new).told }
     ensures touches { touches.new ≤ touches.old + 1 }
     ensures rises { touches.old ≤ touches.new }
 {

@@ -1,6 +1,7 @@
 pub mod Acting
 pub mod After
 pub mod Agreed
+pub mod Alike
 pub mod Answering
 pub mod Children
 pub mod Counting
@@ -19,6 +20,7 @@ pub mod Membering
 pub mod Missing
 pub mod Moving
 pub mod Needed
+pub mod Parting
 pub mod Planning
 pub mod Ranges
 pub mod Reaching
@@ -27,6 +29,10 @@ pub mod MetaEdits
 pub mod Removing
 pub mod Renewing
 pub mod Rooting
+pub mod Saving
+pub mod SavingActs
+pub mod SavingFiles
+pub mod SavingMoves
 pub mod Seeing
 pub mod Settling
 pub mod Shifting

@@ -78,7 +78,7 @@ module _ (X : List ℕ → List ℕ) (N : List ℕ → ℕ) (p : Profile) where
       ∙ ap (λ o. or_else o (dir_refusal X N p (own_meta (with_child name u es)) (named X N p (pairs (with_child name u es))))) (first-put X N p name u (pairs es) (each-planned (pairs es) (members-own X N p folder es s)) ∙ h)
 
   -- the list of a folder after a put
-  list-with : (name : List ℕ) (u : Tree) (e : Entry) (es : Entries) → e ≡ entry X N p u → with_name name e (named_entries X N p es) ≡ named_entries X N p (with_child name u es)
+  pub list-with : (name : List ℕ) (u : Tree) (e : Entry) (es : Entries) → e ≡ entry X N p u → with_name name e (named_entries X N p es) ≡ named_entries X N p (with_child name u es)
   list-with name u e es is = ap (λ e. with_name name e (named_entries X N p es)) is ∙ sym (named_entries-with X N p (own_meta es) name u es)
 
   -- ---- blocks

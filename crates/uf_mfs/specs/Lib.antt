@@ -7,6 +7,7 @@ pub mod Opening
 pub mod Over
 pub mod Reading
 pub mod Remade
+pub mod Saving
 pub mod Showing
 pub mod Standing
 pub mod Steps

@@ -18,6 +18,7 @@ ghost use Rattle.uf_mfs.specs.Over.{LeavesRoot, MakesNothing};
 ghost use Rattle.uf_mfs.specs.Showing.{CallCounts, KeepsMfs, MakesRootCid};
 ghost use Rattle.uf_mfs.specs.Showing.{SavesInTree, ShowsEdit, StepCounts};
 ghost use Rattle.uf_mfs.specs.Touches.{TouchesBy, TouchesEdit, TouchesMaking, removal_bound};
+ghost use Rattle.uf_mfs.specs.Saving.{SavesFolder, SavesForEdit, SavesOnRoot, next_blocks, removed_blocks};
 
 use crate::editing::{Act, EditSite, edit, fill};
 use crate::remaking::change_meta;
@@ -52,6 +53,8 @@ impl Mfs {
         ensures cause { ShowsEdit S.X.block32 N.name64 self.old result (S.seen store.old) (S.seen store.new) }
         ensures good { KeepsGood S.X.block32 (S.seen store.old).told (S.seen store.new).told }
         ensures saves { SavesOnly S.X.block32 (S.seen store.old).told (S.seen store.new).told }
+        ensures no_other { SavesForEdit S.X.block32 N.name64 (S.seen store.old) (S.seen store.new) self.old
+            (λ p es. next_blocks S.X.block32 N.name64 p (made parents path.now.names es)) }
         ensures touches { TouchesEdit S.X.block32 N.name64 (S.seen store.old) (S.seen store.new) self.old
             path.now.names (made parents) touches.old touches.new }
         ensures touched { CallCounts result touches.old touches.new }
@@ -79,6 +82,8 @@ impl Mfs {
         ensures cause { ShowsEdit S.X.block32 N.name64 self.old result (S.seen store.old) (S.seen store.new) }
         ensures good { KeepsGood S.X.block32 (S.seen store.old).told (S.seen store.new).told }
         ensures saves { SavesOnly S.X.block32 (S.seen store.old).told (S.seen store.new).told }
+        ensures no_other { SavesForEdit S.X.block32 N.name64 (S.seen store.old) (S.seen store.new) self.old
+            (λ p es. removed_blocks S.X.block32 N.name64 p recursive path.now.names es) }
         ensures touches { TouchesBy S.X.block32 N.name64 (S.seen store.old) (S.seen store.new) self.old
             (λ p es. removal_bound S.X.block32 N.name64 p path.now.names es (removed recursive path.now.names es))
             touches.old touches.new }
@@ -127,6 +132,8 @@ impl Mfs {
             names.now (IfOk result (λ e. e ≡ self.now.root)) }
         ensures saves { SavesInTree S.X.block32 N.name64 self.now.profile self.now.root.cid result (S.seen store.old)
             (S.seen store.new) }
+        ensures no_other { SavesFolder S.X.block32 N.name64 (S.seen store.old) (S.seen store.new) self.now.profile []
+            self.now.root (λ es. next_blocks S.X.block32 N.name64 self.now.profile (made parents names.now es)) }
         ensures touches { TouchesMaking S.X.block32 N.name64 self.now.profile (S.seen store.old) (S.seen store.new)
             self.now.root names.now (made parents) touches.old touches.new }
         ensures touched { StepCounts result touches.old touches.new }
@@ -162,6 +169,8 @@ impl Mfs {
         ensures made { IfOk result (λ e. RequiresDirectory S.X.block32 self.now.root.cid e.cid.digest) }
         ensures saves { SavesActed S.X.block32 N.name64 self.now.profile (S.seen store.old) (S.seen store.new) what
             self.now.root.cid result }
+        ensures no_other { SavesOnRoot S.X.block32 N.name64 (S.seen store.old) (S.seen store.new) self.now what
+            piece.now names.now }
         ensures touches { TouchesRoot S.X.block32 N.name64 (S.seen store.old) (S.seen store.new) self.now what
             piece.now names.now touches.old touches.new }
         ensures missing { MissesRoot S.X.block32 N.name64 (S.seen store.old) (S.seen store.new) self.now what names.now
@@ -207,6 +216,8 @@ fn edit_root<S: Store, N: NameHash, L: Ledger>(
         (LeavesTree site.now.what site.now.piece.now) result }
     ensures made { MakesRootCid S.X.block32 site.now.profile result }
     ensures saves { SavesActing S.X.block32 N.name64 (S.seen store.old) (S.seen store.new) site.now root.now result }
+    ensures no_other { SavesFolder S.X.block32 N.name64 (S.seen store.old) (S.seen store.new) site.now.profile []
+        root.now (λ es. next_blocks S.X.block32 N.name64 site.now.profile (acted_root site.now.what es)) }
     ensures touches { touches.new ≤ touches.old + root_touches site.now.what }
     ensures missing { IsPut site.now.what → stop_fault result ≡ None }
     ensures touched { StepCounts result touches.old touches.new }

@@ -23,6 +23,9 @@ ghost use Rattle.uf_mfs.specs.Steps.{IsOpened, changed_below, opened, stop_fault
 ghost use Rattle.uf_mfs.specs.Touches.{TouchesFolder, TouchesMaking, TouchesPut, putting_bound, taking_bound};
 ghost use Rattle.uf_mfs.specs.Over.{FillsNothing, LeavesMember, OfMember, OverFolder};
 ghost use Rattle.uf_mfs.specs.Showing.{MakesRootCid, SavesInTree, StepCounts};
+ghost use Rattle.uf_mfs.specs.Saving.{SavesAlong, SavesFolder, SavesHere, SavesPut, next_blocks, opened_blocks};
+ghost use Rattle.uf_mfs.specs.Saving.{taken_blocks};
+ghost use Rattle.uf_tree.specs.TreePlan.{blocks};
 
 use crate::looking::member;
 use crate::remaking::change_member_meta;
@@ -75,6 +78,8 @@ pub(crate) fn edit<S: Store, N: NameHash, L: Ledger>(
         (name.now ∷ rest.now) site.now.what site.now.piece.now (IfOk result (λ new. new ≡ None)) }
     ensures made { MakesRootCid S.X.block32 site.now.profile result }
     ensures saves { SavesActing S.X.block32 N.name64 (S.seen store.old) (S.seen store.new) site.now folder.now result }
+    ensures no_other { SavesAlong S.X.block32 N.name64 (S.seen store.old) (S.seen store.new) site.now folder.now
+        name.now rest.now }
     ensures touches { TouchesAlong S.X.block32 N.name64 (S.seen store.old) (S.seen store.new) site.now folder.now
         name.now rest.now touches.old touches.new }
     ensures missing { MissesAlong S.X.block32 N.name64 (S.seen store.old) (S.seen store.new) site.now folder.now
@@ -115,6 +120,8 @@ pub(crate) fn fill<S: Store, N: NameHash, L: Ledger>(
         names.now result }
     ensures saves { SavesInTree S.X.block32 N.name64 profile.now folder.now.cid result (S.seen store.old)
         (S.seen store.new) }
+    ensures no_other { SavesFolder S.X.block32 N.name64 (S.seen store.old) (S.seen store.new) profile.now [] folder.now
+        (λ es. next_blocks S.X.block32 N.name64 profile.now (made_all led names.now es)) }
     ensures touches { TouchesMaking S.X.block32 N.name64 profile.now (S.seen store.old) (S.seen store.new) folder.now
         names.now (made_all led) touches.old touches.new }
     ensures touched { StepCounts result touches.old touches.new }
@@ -159,6 +166,8 @@ fn open_or_make<S: Store, N: NameHash, L: Ledger>(
         (λ p es. child name.now es ≢ None → (S.seen store.new).told ≡ (S.seen store.old).told) }
     ensures saves { OnlySaves S.X.block32 (IsBadInTree S.X.block32 N.name64 None folder.now.cid)
         (stop_fault result) (S.seen store.old) (S.seen store.new) }
+    ensures no_other { (p : TheProfile) → SavesFolder S.X.block32 N.name64 (S.seen store.old) (S.seen store.new) p []
+        folder.now (λ es. opened_blocks S.X.block32 N.name64 p (child name.now es)) }
     ensures required { IfOk result (λ found. RequiresDirectory S.X.block32 folder.now.cid found.0.cid.digest) }
     ensures touches { touches.new ≤ touches.old + 12 }
     ensures touched { StepCounts result touches.old touches.new }
@@ -206,6 +215,8 @@ fn edit_here<S: Store, N: NameHash, L: Ledger>(
         (LeavesTree site.now.what site.now.piece.now) result }
     ensures made { MakesRootCid S.X.block32 site.now.profile result }
     ensures saves { SavesActing S.X.block32 N.name64 (S.seen store.old) (S.seen store.new) site.now folder.now result }
+    ensures no_other { SavesHere S.X.block32 N.name64 (S.seen store.old) (S.seen store.new) site.now folder.now name.now
+        found }
     ensures touches { TouchesActing S.X.block32 N.name64 (S.seen store.old) (S.seen store.new) site.now folder.now
         name.now found touches.old touches.new }
     ensures missing { MissesHere S.X.block32 N.name64 (S.seen store.old) (S.seen store.new) site.now folder.now
@@ -269,6 +280,8 @@ fn make_in<S: Store, N: NameHash, L: Ledger>(
     ensures made { MakesRootCid S.X.block32 profile.now result }
     ensures saves { SavesInTree S.X.block32 N.name64 profile.now folder.now.cid result (S.seen store.old)
         (S.seen store.new) }
+    ensures no_other { SavesFolder S.X.block32 N.name64 (S.seen store.old) (S.seen store.new) profile.now [] folder.now
+        (λ es. blocks S.X.block32 N.name64 profile.now (Dir (with_child name.now (Dir (Nothing none)) es))) }
     ensures touches { TouchesFolder S.X.block32 N.name64 profile.now (S.seen store.old) (S.seen store.new) []
         folder.now (putting_bound S.X.block32 N.name64 profile.now 18 name.now (Dir (Nothing none))) touches.old
         touches.new }
@@ -294,6 +307,8 @@ fn put_in<S: Store, N: NameHash, L: Ledger>(
     ensures made { MakesRootCid S.X.block32 profile.now result }
     ensures saves { SavesInTree S.X.block32 N.name64 profile.now folder.now.cid result (S.seen store.old)
         (S.seen store.new) }
+    ensures no_other { SavesPut S.X.block32 N.name64 (S.seen store.old) (S.seen store.new) profile.now entry.now
+        folder.now (λ t es. blocks S.X.block32 N.name64 profile.now (Dir (with_child name.now t es))) }
     ensures touches { TouchesPut S.X.block32 N.name64 profile.now (S.seen store.old) (S.seen store.new) entry.now
         folder.now (putting_bound S.X.block32 N.name64 profile.now 17 name.now) touches.old touches.new }
     ensures missing { FolderMisses S.X.block32 N.name64 profile.now (S.seen store.old) (S.seen store.new) folder.now
@@ -321,6 +336,8 @@ fn take_out<S: Store, N: NameHash, L: Ledger>(
     ensures made { MakesRootCid S.X.block32 profile.now result }
     ensures saves { SavesInTree S.X.block32 N.name64 profile.now folder.now.cid result (S.seen store.old)
         (S.seen store.new) }
+    ensures no_other { SavesFolder S.X.block32 N.name64 (S.seen store.old) (S.seen store.new) profile.now [] folder.now
+        (taken_blocks S.X.block32 N.name64 profile.now (name.now ∷ [])) }
     ensures touches { TouchesFolder S.X.block32 N.name64 profile.now (S.seen store.old) (S.seen store.new) []
         folder.now (taking_bound S.X.block32 N.name64 profile.now name.now) touches.old touches.new }
     ensures touched { StepCounts result touches.old touches.new }

@@ -1,5 +1,5 @@
 //! Copies and moves in the tree.
-ghost use Rattle.std.specs.Prelude.{◌≡◌, ◌+◌, ◌*◌, IfOk, length};
+ghost use Rattle.std.specs.Prelude.{◌≡◌, ◌+◌, ◌*◌, [], IfOk, length};
 ghost use Rattle.uf_store.specs.Keeping.{KeepsGood};
 ghost use Rattle.uf_store.specs.Writing.{SavesOnly};
 ghost use Rattle.uf_plain.specs.Moves.{carried, copied, edited_at, lie_of as lie_at};
@@ -16,6 +16,8 @@ ghost use Rattle.uf_mfs.specs.Over.{StaysOver};
 ghost use Rattle.uf_mfs.specs.Showing.{CallCounts, KeepsMfs, SavesInTree};
 ghost use Rattle.uf_mfs.specs.Showing.{SavesMoving, ShowsEdit, StepCounts};
 ghost use Rattle.uf_mfs.specs.Touches.{TouchesPut, edit_bound};
+ghost use Rattle.uf_mfs.specs.Saving.{SavesFolder, SavesForEdit, SavesForPut, SavesFound, SavesPut, SavesToSpot};
+ghost use Rattle.uf_mfs.specs.Saving.{moved_blocks, next_blocks};
 
 use crate::editing::Act;
 use crate::looking::look;
@@ -52,6 +54,8 @@ impl Mfs {
         ensures cause { ShowsEdit S.X.block32 N.name64 self.old result (S.seen store.old) (S.seen store.new) }
         ensures good { KeepsGood S.X.block32 (S.seen store.old).told (S.seen store.new).told }
         ensures saves { SavesOnly S.X.block32 (S.seen store.old).told (S.seen store.new).told }
+        ensures no_other { SavesForPut S.X.block32 N.name64 (S.seen store.old) (S.seen store.new) self.old entry.now
+            spot.now }
         ensures touches { TouchesPut S.X.block32 N.name64 self.old.profile (S.seen store.old) (S.seen store.new)
             entry.now self.old.root (λ t es. 40 * length (spot_names spot.now) + put_crossings S.X.block32 N.name64
             self.old.profile spot.now t es) touches.old touches.new }
@@ -81,6 +85,8 @@ impl Mfs {
         ensures cause { ShowsEdit S.X.block32 N.name64 self.old result (S.seen store.old) (S.seen store.new) }
         ensures good { KeepsGood S.X.block32 (S.seen store.old).told (S.seen store.new).told }
         ensures saves { SavesOnly S.X.block32 (S.seen store.old).told (S.seen store.new).told }
+        ensures no_other { SavesForEdit S.X.block32 N.name64 (S.seen store.old) (S.seen store.new) self.old
+            (λ p es. next_blocks S.X.block32 N.name64 p (copied source.now.names dest.now es)) }
         ensures touches { TouchesCopy S.X.block32 N.name64 (S.seen store.old) (S.seen store.new) self.old
             source.now.names dest.now touches.old touches.new }
         ensures touched { CallCounts result touches.old touches.new }
@@ -117,6 +123,8 @@ impl Mfs {
         ensures cause { ShowsEdit S.X.block32 N.name64 self.old result (S.seen store.old) (S.seen store.new) }
         ensures good { KeepsGood S.X.block32 (S.seen store.old).told (S.seen store.new).told }
         ensures saves { SavesOnly S.X.block32 (S.seen store.old).told (S.seen store.new).told }
+        ensures no_other { SavesForEdit S.X.block32 N.name64 (S.seen store.old) (S.seen store.new) self.old
+            (λ p es. moved_blocks S.X.block32 N.name64 p source.now.names es (carried source.now.names dest.now es)) }
         ensures touches { TouchesMove S.X.block32 N.name64 (S.seen store.old) (S.seen store.new) self.old
             source.now.names dest.now touches.old touches.new }
         ensures touched { CallCounts result touches.old touches.new }
@@ -143,6 +151,9 @@ fn moved_root<S: Store, N: NameHash, L: Ledger>(
     ensures itself { StaysOver S.X.block32 N.name64 (S.seen store.old) (S.seen store.new) tree.now
         (IsOntoItself source.now dest.now) (IfOk result (λ e. e ≡ tree.now.root)) }
     ensures saves { SavesMoving S.X.block32 N.name64 tree.now result (S.seen store.old) (S.seen store.new) }
+    ensures no_other { SavesFolder S.X.block32 N.name64 (S.seen store.old) (S.seen store.new) tree.now.profile []
+        tree.now.root (λ es. moved_blocks S.X.block32 N.name64 tree.now.profile source.now es
+        (carried source.now dest.now es)) }
     ensures touches { TouchesMove S.X.block32 N.name64 (S.seen store.old) (S.seen store.new) tree.now source.now
         dest.now touches.old touches.new }
     ensures touched { CallCounts result touches.old touches.new }
@@ -176,6 +187,8 @@ fn moved_to<S: Store, N: NameHash, L: Ledger>(
     ensures itself { lie_at source.now target.now.names ≡ Itself
         → ((S.seen store.new).told ≡ (S.seen store.old).told) × IfOk result (λ e. e ≡ tree.now.root) }
     ensures saves { SavesMoving S.X.block32 N.name64 tree.now result (S.seen store.old) (S.seen store.new) }
+    ensures no_other { SavesFound S.X.block32 N.name64 (S.seen store.old) (S.seen store.new) tree.now source.now thing
+        target.now }
     ensures touches { TouchesFound S.X.block32 N.name64 (S.seen store.old) (S.seen store.new) tree.now source.now thing
         target.now touches.old touches.new }
     ensures touched { CallCounts result touches.old touches.new }
@@ -208,6 +221,8 @@ fn shifted_root<S: Store, N: NameHash, L: Ledger>(
     ensures moves { MovesToSpot S.X.block32 N.name64 (S.seen store.old) (S.seen store.new) tree.now source.now thing
         names.now result }
     ensures saves { SavesMoving S.X.block32 N.name64 tree.now result (S.seen store.old) (S.seen store.new) }
+    ensures no_other { SavesToSpot S.X.block32 N.name64 (S.seen store.old) (S.seen store.new) tree.now source.now thing
+        names.now }
     ensures touches { TouchesToSpot S.X.block32 N.name64 (S.seen store.old) (S.seen store.new) tree.now source.now
         thing names.now touches.old touches.new }
     ensures touched { CallCounts result touches.old touches.new }
@@ -242,6 +257,9 @@ fn put_root<S: Store, N: NameHash, L: Ledger>(
         tree.now.root (λ t es. edited_at (put_over t) names.now es) result }
     ensures saves { SavesInTree S.X.block32 N.name64 tree.now.profile tree.now.root.cid result (S.seen store.old)
         (S.seen store.new) }
+    ensures no_other { SavesPut S.X.block32 N.name64 (S.seen store.old) (S.seen store.new) tree.now.profile entry.now
+        tree.now.root (λ t es.
+        next_blocks S.X.block32 N.name64 tree.now.profile (edited_at (put_over t) names.now es)) }
     ensures touches { TouchesPut S.X.block32 N.name64 tree.now.profile (S.seen store.old) (S.seen store.new) entry.now
         tree.now.root (λ t. edit_bound S.X.block32 N.name64 tree.now.profile names.now
         (edited_at (put_over t) names.now)) touches.old touches.new }

@@ -21,6 +21,9 @@ ghost use Rattle.uf_mfs.specs.Over.{LeavesMember, LeavesThing, StaysWhere};
 ghost use Rattle.uf_mfs.specs.Showing.{CallCounts, KeepsMfs, MakesRootCid};
 ghost use Rattle.uf_mfs.specs.Showing.{SavesRemade, ShowsRemake, StepCounts};
 ghost use Rattle.uf_mfs.specs.Touches.{TouchesNames};
+ghost use Rattle.uf_mfs.specs.Saving.{SavesForEdit, SavesMember, SavesThing, next_blocks, remade_blocks};
+ghost use Rattle.uf_plain.specs.Metas.{with_meta};
+ghost use Rattle.uf_tree.specs.TreePlan.{blocks};
 
 use crate::editing::{Act, EditSite};
 use crate::measuring::stat_of;
@@ -57,6 +60,8 @@ impl Mfs {
         ensures cause { ShowsRemake S.X.block32 N.name64 self.old result (S.seen store.old) (S.seen store.new) }
         ensures good { KeepsGood S.X.block32 (S.seen store.old).told (S.seen store.new).told }
         ensures saves { SavesOnly S.X.block32 (S.seen store.old).told (S.seen store.new).told }
+        ensures no_other { SavesForEdit S.X.block32 N.name64 (S.seen store.old) (S.seen store.new) self.old
+            (λ p es. next_blocks S.X.block32 N.name64 p (meta_edited (Mode mode) path.now.names es)) }
         ensures touches { TouchesNames S.X.block32 N.name64 (S.seen store.old) (S.seen store.new) self.old
             path.now.names touches.old touches.new }
         ensures touched { CallCounts result touches.old touches.new }
@@ -85,6 +90,8 @@ impl Mfs {
         ensures cause { ShowsRemake S.X.block32 N.name64 self.old result (S.seen store.old) (S.seen store.new) }
         ensures good { KeepsGood S.X.block32 (S.seen store.old).told (S.seen store.new).told }
         ensures saves { SavesOnly S.X.block32 (S.seen store.old).told (S.seen store.new).told }
+        ensures no_other { SavesForEdit S.X.block32 N.name64 (S.seen store.old) (S.seen store.new) self.old
+            (λ p es. next_blocks S.X.block32 N.name64 p (meta_edited (Modified mtime.now) path.now.names es)) }
         ensures touches { TouchesNames S.X.block32 N.name64 (S.seen store.old) (S.seen store.new) self.old
             path.now.names touches.old touches.new }
         ensures touched { CallCounts result touches.old touches.new }
@@ -111,6 +118,8 @@ impl Mfs {
         ensures cause { ShowsRemake S.X.block32 N.name64 self.old result (S.seen store.old) (S.seen store.new) }
         ensures good { KeepsGood S.X.block32 (S.seen store.old).told (S.seen store.new).told }
         ensures saves { SavesOnly S.X.block32 (S.seen store.old).told (S.seen store.new).told }
+        ensures no_other { SavesForEdit S.X.block32 N.name64 (S.seen store.old) (S.seen store.new) self.old
+            (λ p es. next_blocks S.X.block32 N.name64 p (meta_edited Strip path.now.names es)) }
         ensures touches { TouchesNames S.X.block32 N.name64 (S.seen store.old) (S.seen store.new) self.old
             path.now.names touches.old touches.new }
         ensures touched { CallCounts result touches.old touches.new }
@@ -139,6 +148,8 @@ impl Mfs {
         ensures cause { ShowsRemake S.X.block32 N.name64 self.old result (S.seen store.old) (S.seen store.new) }
         ensures good { KeepsGood S.X.block32 (S.seen store.old).told (S.seen store.new).told }
         ensures saves { SavesOnly S.X.block32 (S.seen store.old).told (S.seen store.new).told }
+        ensures no_other { SavesForEdit S.X.block32 N.name64 (S.seen store.old) (S.seen store.new) self.old
+            (λ p es. next_blocks S.X.block32 N.name64 p (meta_edited what path.now.names es)) }
         ensures touches { TouchesNames S.X.block32 N.name64 (S.seen store.old) (S.seen store.new) self.old
             path.now.names touches.old touches.new }
         ensures touched { CallCounts result touches.old touches.new }
@@ -169,6 +180,8 @@ pub(crate) fn change_member_meta<S: Store, N: NameHash, L: Ledger>(
     ensures saves { (root : TheCid) → IfSome found (IsRequired S.X.block32 root) → OnlySaves S.X.block32
         (IsBadRemadeIn S.X.block32 N.name64 site.now.profile root) (stop_fault result)
         (S.seen store.old) (S.seen store.new) }
+    ensures no_other { SavesMember S.X.block32 N.name64 (S.seen store.old) (S.seen store.new) site.now.profile found
+        (remade_blocks S.X.block32 N.name64 site.now.profile what) }
     ensures touches { touches.new ≤ touches.old + 3 }
     ensures touched { StepCounts result touches.old touches.new }
 {
@@ -196,6 +209,8 @@ pub(crate) fn change_meta<S: Store, N: NameHash, L: Ledger>(
     ensures made { (e : TheEntry) (seen : TheOption FolderRoot) → thing ≡ Folder e seen → MakesRootCid S.X.block32
         p.now result }
     ensures saves { SavesRemade S.X.block32 N.name64 p.now thing result (S.seen store.old) (S.seen store.new) }
+    ensures no_other { SavesThing S.X.block32 N.name64 (S.seen store.old) (S.seen store.new) p.now thing
+        (λ t. blocks S.X.block32 N.name64 p.now (remade_tree what t)) }
     ensures touches { touches.new ≤ touches.old + 3 }
     ensures touched { StepCounts result touches.old touches.new }
 {
@@ -222,6 +237,8 @@ fn set_thing_meta<S: Store, N: NameHash, L: Ledger>(
     ensures gives { CalmThing S.X.block32 N.name64 p.now (S.seen store.old) (S.seen store.new) thing
         (λ was is t. GivesRemade S.X.block32 N.name64 p.now was is meta.now t result) }
     ensures saves { SavesRemade S.X.block32 N.name64 p.now thing result (S.seen store.old) (S.seen store.new) }
+    ensures no_other { SavesThing S.X.block32 N.name64 (S.seen store.old) (S.seen store.new) p.now thing
+        (λ t. blocks S.X.block32 N.name64 p.now (with_meta meta.now t)) }
     ensures made { (e : TheEntry) (seen : TheOption FolderRoot) → thing ≡ Folder e seen
         → IfOk result (λ new. IsRootCid S.X.block32 (Some p.now) new.cid) }
     ensures touches { touches.new ≤ touches.old + 2 }

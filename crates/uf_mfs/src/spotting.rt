@@ -1,13 +1,14 @@
 //! Where something is put in the tree.
 ghost use Rattle.std.specs.Prelude.{◌≡◌, ◌+◌, ◌*◌, ◌≤◌, IfOk, IfSome, Ok, Some, length, option_copied};
-ghost use Rattle.std.specs.Prelude.{true};
+ghost use Rattle.std.specs.Prelude.{◌++◌, ◌∷◌, [], true};
 ghost use Rattle.uf_tree.specs.Tree.{Dir};
 ghost use Rattle.uf_plain.specs.Moves.{folder_at, spotted, target, told_of};
 ghost use Rattle.uf_plain.specs.declared.rule.Refused.TheVariants as why;
 ghost use Rattle.uf_mfs.specs.Answers.{Tells};
 ghost use Rattle.uf_mfs.specs.Bad.{IsRequired, RequiresDirectory};
+ghost use Rattle.uf_mfs.specs.Missing.{MemberMisses, SpotMisses, SpotMissesIn, put_names};
 ghost use Rattle.uf_mfs.specs.Moving.{FindsTarget, Gives, GivesSpot, SpotsOver, folder_there, lands, vacant_at};
-ghost use Rattle.uf_mfs.specs.Steps.{stop_fault};
+ghost use Rattle.uf_mfs.specs.Steps.{stop_fault, tree_fault};
 ghost use Rattle.uf_mfs.specs.declared.fault.Stop.TheVariants as stop;
 ghost use Rattle.uf_mfs.specs.Over.{LooksAlong, WholeTree};
 ghost use Rattle.uf_mfs.specs.Showing.{CallCounts, ReadsBelow, ReadsInTree, ShowsReading, StepCounts};
@@ -39,6 +40,8 @@ impl Mfs {
             (λ p es. Gives (λ spot given. given ≡ spot) (spotted dest.now (option_copied name.entry) es) result) }
         ensures lost { SpotsOver S.X.block32 N.name64 (S.seen store.old) (S.seen store.new) self.now
             (spotted dest.now (option_copied name.entry)) result }
+        ensures missing { SpotMisses S.X.block32 N.name64 (S.seen store.old) (S.seen store.new) self.now
+            (put_names dest.now (option_copied name.entry)) (tree_fault result) }
         ensures cause { ShowsReading S.X.block32 N.name64 self.now result (S.seen store.old) (S.seen store.new) }
         ensures told { (S.seen store.new).told ≡ (S.seen store.old).told }
         ensures touches { touches.new ≤ touches.old + 11 * (length dest.now.names + 1) }
@@ -68,6 +71,8 @@ fn spot_in<S: Store, N: NameHash, L: Ledger>(
 ) -> Result<Spot, MfsFault>
     ensures spots { GivesSpot S.X.block32 N.name64 (S.seen store.old) (S.seen store.new) root.now
         (spotted (record { names = names.now; into = true }) (option_copied name.entry)) result }
+    ensures missing { SpotMissesIn S.X.block32 N.name64 (S.seen store.old) (S.seen store.new) root.now
+        (put_names (record { names = names.now; into = true }) (option_copied name.entry)) (tree_fault result) }
     ensures reads { ReadsInTree S.X.block32 N.name64 root.now.cid result (S.seen store.old) (S.seen store.new) }
     ensures touches { touches.new ≤ touches.old + 11 * (length names.now + 1) }
     ensures touched { CallCounts result touches.old touches.new }
@@ -93,6 +98,8 @@ fn vacant<S: Store, N: NameHash, L: Ledger>(
 ) -> Result<Spot, MfsFault>
     ensures spots { GivesSpot S.X.block32 N.name64 (S.seen store.old) (S.seen store.new) root.now
         (vacant_at told.now folder.now name.now) result }
+    ensures missing { SpotMissesIn S.X.block32 N.name64 (S.seen store.old) (S.seen store.new) root.now
+        (folder.now ++ name.now ∷ []) (tree_fault result) }
     ensures reads { ReadsInTree S.X.block32 N.name64 root.now.cid result (S.seen store.old) (S.seen store.new) }
     ensures touches { touches.new ≤ touches.old + 11 * (length folder.now + 1) }
     ensures touched { CallCounts result touches.old touches.new }
@@ -158,6 +165,8 @@ fn landing<S: Store, N: NameHash, L: Ledger>(
 ) -> Result<MoveTarget, MfsFault>
     ensures found { FindsTarget S.X.block32 N.name64 (S.seen store.old) (S.seen store.new) root.now
         (λ es. told_of told.now (lands folder.now name.now es)) result }
+    ensures missing { SpotMissesIn S.X.block32 N.name64 (S.seen store.old) (S.seen store.new) root.now
+        (folder.now ++ name.now ∷ []) (tree_fault result) }
     ensures reads { ReadsInTree S.X.block32 N.name64 root.now.cid result (S.seen store.old) (S.seen store.new) }
     ensures required { IfOk result (λ target. IfSome target.there (IsRequired S.X.block32 root.now.cid)) }
     ensures touches { touches.new ≤ touches.old + 11 * (length folder.now + 1) }
@@ -180,6 +189,8 @@ fn under<S: Store, N: NameHash, L: Ledger>(
 ) -> Result<MoveTarget, MfsFault>
     ensures found { FindsTarget S.X.block32 N.name64 (S.seen store.old) (S.seen store.new) entry.now
         (λ es. Ok (record { folder = folder.now; name = name.now }, es)) result }
+    ensures missing { MemberMisses S.X.block32 N.name64 (S.seen store.old) (S.seen store.new) entry.now name.now
+        (tree_fault result) }
     ensures reads { ReadsInTree S.X.block32 N.name64 entry.now.cid result (S.seen store.old) (S.seen store.new) }
     ensures required { IfOk result (λ target. IfSome target.there (IsRequired S.X.block32 entry.now.cid)) }
     ensures touches { touches.new ≤ touches.old + 11 }

@@ -22,6 +22,8 @@ ghost use Rattle.uf_mfs.specs.Writes.{leaves_found};
 ghost use Rattle.uf_mfs.specs.Writes.{rewriting_touches};
 ghost use Rattle.uf_mfs.specs.Over.{OfMember, WritesNoByte};
 ghost use Rattle.uf_mfs.specs.Showing.{CallCounts, KeepsMfs, ShowsWriting, StepCounts};
+ghost use Rattle.uf_mfs.specs.Saving.{SavesCreated, SavesForEdit, SavesNewFile, SavesRewritten, next_blocks};
+ghost use Rattle.uf_mfs.specs.Writes.{fitting_edit};
 
 use crate::editing::{Act, EditSite};
 use crate::{Mfs, MfsFault, Stop, Thing};
@@ -66,6 +68,8 @@ impl Mfs {
         ensures cause { ShowsWriting S.X.block32 N.name64 self.old result (S.seen store.old) (S.seen store.new) }
         ensures good { KeepsGood S.X.block32 (S.seen store.old).told (S.seen store.new).told }
         ensures saves { SavesOnly S.X.block32 (S.seen store.old).told (S.seen store.new).told }
+        ensures no_other { SavesForEdit S.X.block32 N.name64 (S.seen store.old) (S.seen store.new) self.old
+            (λ p es. next_blocks S.X.block32 N.name64 p (fitting_edit p (Write how.now) piece.now path.now.names es)) }
         ensures touches { TouchesWriting S.X.block32 N.name64 (S.seen store.old) (S.seen store.new) self.old
             (Write how.now) piece.now path.now.names touches.old touches.new }
         ensures touched { CallCounts result touches.old touches.new }
@@ -94,6 +98,8 @@ impl Mfs {
         ensures cause { ShowsWriting S.X.block32 N.name64 self.old result (S.seen store.old) (S.seen store.new) }
         ensures good { KeepsGood S.X.block32 (S.seen store.old).told (S.seen store.new).told }
         ensures saves { SavesOnly S.X.block32 (S.seen store.old).told (S.seen store.new).told }
+        ensures no_other { SavesForEdit S.X.block32 N.name64 (S.seen store.old) (S.seen store.new) self.old
+            (λ p es. next_blocks S.X.block32 N.name64 p (fitting_edit p (Truncate length) [] path.now.names es)) }
         ensures touches { TouchesWriting S.X.block32 N.name64 (S.seen store.old) (S.seen store.new) self.old
             (Truncate length) [] path.now.names touches.old touches.new }
         ensures touched { CallCounts result touches.old touches.new }
@@ -129,6 +135,7 @@ pub(crate) fn new_file<S: Store, L: Ledger>(
     ensures gives { MakesMember S.X.block32 (S.seen store.old) (S.seen store.new) site.now what found result }
     ensures saves { OnlySaves S.X.block32 (IsBadInSome S.X.block32 site.now.profile (S.seen store.new).told)
         (stop_fault result) (S.seen store.old) (S.seen store.new) }
+    ensures no_other { SavesNewFile S.X.block32 (S.seen store.old) (S.seen store.new) site.now what found }
     ensures touches { TouchesMember S.X.block32 (S.seen store.old) (S.seen store.new) site.now what found touches.old
         touches.new }
     ensures touched { StepCounts result touches.old touches.new }
@@ -178,6 +185,7 @@ fn created_file<S: Store, L: Ledger>(
     ensures gives { CreatesFile S.X.block32 (S.seen store.old) (S.seen store.new) site.now how meta.now result }
     ensures saves { (root : TheCid) → SavesEdited S.X.block32 site.now.profile root result (S.seen store.old)
         (S.seen store.new) }
+    ensures no_other { SavesCreated S.X.block32 (S.seen store.old).told (S.seen store.new).told site.now how meta.now }
     ensures touches { (rows : ℕ → ℕ) → AreHeights site.now.profile rows → touches.new ≤ touches.old
         + rewriting_touches site.now.profile rows (Write how) site.now.piece.now meta.now [] }
     ensures touched { StepCounts result touches.old touches.new }
@@ -199,6 +207,7 @@ fn rewritten_file<S: Store, L: Ledger>(
     requires profile { IsTrue (is_profile site.now.profile) }
     ensures gives { RewritesFile S.X.block32 (S.seen store.old) (S.seen store.new) site.now what old.now result }
     ensures saves { SavesEdited S.X.block32 site.now.profile old.now.cid result (S.seen store.old) (S.seen store.new) }
+    ensures no_other { SavesRewritten S.X.block32 (S.seen store.old) (S.seen store.new) site.now what old.now }
     ensures touches { TouchesFile S.X.block32 (S.seen store.old) (S.seen store.new) site.now what old.now touches.old
         touches.new }
     ensures touched { StepCounts result touches.old touches.new }

@@ -1,9 +1,10 @@
 //! A CID pinned.
-ghost use Rattle.std.specs.Prelude.{◌≡◌, Some};
+ghost use Rattle.std.specs.Prelude.{◌≡◌, Err, Some};
 ghost use Rattle.uf_store.specs.Contents.{Contents};
 ghost use Rattle.uf_store.specs.Faults.{NoneIsBad, Shown};
 ghost use Rattle.uf_pins.specs.Calls.{AddsPin, GivesText, WritesMore, pin_fault};
 ghost use Rattle.uf_pins.specs.Texts.{ArePins};
+ghost use Rattle.uf_pins.specs.declared.fault.PinFault.TheVariants as fault;
 
 use crate::below::reach_one;
 use crate::lists::{place_of, with_pin};
@@ -28,6 +29,7 @@ pub fn add_pin<S: Store, L: Ledger>(
 ) -> Result<(), PinFault>
     ensures added { (t : Contents) → (S.seen store.old).told ≡ Some t
         → AddsPin t most cid.now result (S.seen store.new).told }
+    ensures unread { result ≡ Err fault.BadPins → (S.seen store.new).told ≡ (S.seen store.old).told }
     ensures writes { WritesMore result (S.seen store.old).told (S.seen store.new).told }
     ensures cause { Shown S.X.block32 NoneIsBad (pin_fault result) (S.seen store.old) (S.seen store.new) }
 {

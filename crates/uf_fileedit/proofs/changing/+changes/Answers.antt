@@ -1,3 +1,8 @@
+use Rattle.uf_fileedit.proofs.Saving.{below-saves, leaf-saves, node-saves}
+use Rattle.uf_fileedit.specs.Saving.{SavesOfPart, blocks_changed}
+use Rattle.uf_tree.specs.Cutting.{joined}
+use Rattle.uf_tree.specs.FilePlan.{node_held}
+use Rattle.uf_store.proofs.Among.{SavesAmong-either, SavesAmong-refl, SavesAmong-same}
 use Rattle.std.proofs.Common.{◌≡◌, ◌≤◌, ◌<◌, ◌+◌, ◌-◌, ◌*◌, ◌^◌, ℕ, List, [], ◌∷◌, ◌++◌, length, take, drop, min, ap, arith, refl, rules, subst, sym, ◌∙◌}
 use Rattle.std.specs.Prelude.{IfErr}
 use Rattle.std.specs.List.{sum_by}
@@ -13,14 +18,14 @@ use Rattle.std.proofs.lemmas.Result.{err_from_is_err_and}
 use Rattle.uf_fileedit.proofs.Touching.{below-slice, blamed-after, chunks_in, climbs-save, leaf-touches, less-spent, node-spent, node-touches, place-next, rest-length, rest-next, spent-none, turn-costs}
 use Rattle.uf_store.proofs.Writing.{SavesOnly-refl, SavesOnly-trans, Wrote-good, Wrote-same}
 use Rattle.uf_tree.specs.declared.nodes.Part.{Part}
-use Rattle.uf_tree.specs.FileSub.{span}
+use Rattle.uf_tree.specs.FileSub.{span, blocks_over}
 use Rattle.uf_tree.proofs.Told.{kept}
-use Rattle.uf_fileedit.specs.Changes.{IsBlank, IsOld, LiesWithin, old_blocks}
+use Rattle.uf_fileedit.specs.Changes.{IsBlank, IsOld, LiesWithin, old_blocks, overlaid}
 use Rattle.uf_fileedit.specs.Layers.{RemakesPart}
 use Rattle.uf_fileedit.proofs.Blames.{below-shows, old-at, turn-shows}
 use Rattle.uf_fileedit.proofs.Numbers.{Room, room-begins, room-more}
 use Rattle.uf_fileedit.proofs.Old.{pos}
-use Rattle.uf_fileedit.proofs.Steps.{Progress, begins, blank-again, blank-first, blank-later, count-size, count-some, counted, ends, leaf-here, leaf-small, left-alone, node-few, node-gives, node-lost, one-within, rest-within, total-more, turn, turn-agrees, turn-lost}
+use Rattle.uf_fileedit.proofs.Steps.{Progress, begins, blank-again, blank-first, blank-later, count-size, count-some, counted, ends, leaf-here, leaf-small, left-alone, node-few, node-gives, node-lost, one-within, rest-within, total-more, turn, turn-agrees, turn-lost, turn-saves}
 use Rattle.uf_fileedit.proofs.changing.+changes.Goals as goal
 
 pub change-returns-in-Some-clause-gives : goal.change-returns-in-Some-clause-gives
@@ -151,6 +156,7 @@ change_parts-parts-init g t c =
       calm = StaysCalm-refl (g.S.Store.seen c.args.store.now);
       good = KeepsGood-refl g.S.X.BlockHash.block32 ((g.S.Store.seen c.args.store.now).told);
       saves = SavesOnly-refl g.S.X.BlockHash.block32 ((g.S.Store.seen c.args.store.now).told);
+      no_other = λ zeros gs are before now. SavesAmong-refl g.S.X.BlockHash.block32 (blocks_changed g.S.X.BlockHash.block32 c.args.layer c.args.target (joined gs) c.args.piece.now) (g.S.Store.seen c.args.store.now).told;
     }
 
 pub change_parts-returns-in_err-part-clause-gives : goal.change_parts-returns-in_err-part-clause-gives
@@ -238,6 +244,11 @@ change_parts-parts-preserved g t c =
       calm = StaysCalm-trans (g.S.Store.seen c.args.store.now) (g.S.Store.seen c.parts.store) (g.S.Store.seen c.change_one.new.store) c.parts.invariant.calm c.in_ok-part.ensures.saves.0;
       good = KeepsGood-trans g.S.X.BlockHash.block32 ((g.S.Store.seen c.args.store.now).told) ((g.S.Store.seen c.parts.store).told) ((g.S.Store.seen c.change_one.new.store).told) c.parts.invariant.good (Wrote-good g.S.X.BlockHash.block32 IsSave ((g.S.Store.seen c.parts.store).told) ((g.S.Store.seen c.change_one.new.store).told) c.in_ok-part.ensures.saves.1);
       saves = SavesOnly-trans g.S.X.BlockHash.block32 ((g.S.Store.seen c.args.store.now).told) ((g.S.Store.seen c.parts.store).told) ((g.S.Store.seen c.change_one.new.store).told) c.parts.invariant.saves c.in_ok-part.ensures.saves.1;
+      no_other = λ zeros gs are before now.
+          turn-saves g.S.X.BlockHash.block32 (record { size = g.met.S.X.BlockHash.size; are_bytes = g.met.S.X.BlockHash.are_bytes }) c.args.layer.p c.requires.profile c.args.layer.top c.args.layer.height c.args.target.size c.args.target.offset c.parts.left c.parts.at c.parts.place c.min-count.result c.span_of-most.result c.min-cut.result c.args.olds.now c.parts.news c.args.piece.now c.parts.rest.now gs c.part_at-old.result
+          c.span_of-most.ensures c.min-count.ensures (c.min-cut.ensures ∙ ap (min (length c.parts.rest.now)) c.saturating_sub.ensures) c.part_at-old.ensures c.requires.size c.parts.invariant.left_is (let more = c.parts-test.true in omega arith) c.parts.invariant.within (g.S.Store.seen c.args.store.now).told (g.S.Store.seen c.parts.store).told (g.S.Store.seen c.change_one.new.store).told are c.parts.invariant.saves c.in_ok-part.ensures.saves.1 before now
+          (λ a. (c.parts.invariant.gives zeros gs are before a).0) (λ a. c.parts.invariant.no_other zeros gs are before a)
+          (λ b is a d. c.in_ok-part.ensures.no_other (blank-later g.S.X.BlockHash.block32 c.args.layer.p (g.S.Store.seen c.args.store.now).told (g.S.Store.seen c.parts.store).told 0 c.args.layer.zeros c.parts.invariant.good zeros) b is a d);
     }
 
 pub change_parts-returns-in_err-part-clause-rises : goal.change_parts-returns-in_err-part-clause-rises
@@ -265,3 +276,55 @@ pub change-returns-clause-gives : goal.change-returns-clause-gives
 change-returns-clause-gives g t c =
     let some = c.if-layer-eq0.false in
     subst (λ (k : ℕ). RemakesPart g.S.X.BlockHash.block32 c.args.layer k c.args.target c.args.piece.now (g.S.Store.seen c.args.store.now) (g.S.Store.seen c.change_node.new.store) c.change_node.result) (let e : c.args.layer.height - 1 + 1 ≡ c.args.layer.height = omega arith in e) c.change_node.ensures.gives
+
+-- ---- what is saved
+
+pub change-returns-in-Some-clause-no_other : goal.change-returns-in-Some-clause-no_other
+change-returns-in-Some-clause-no_other g t c = λ zeros b is before now.
+    SavesAmong-refl g.S.X.BlockHash.block32 (blocks_over g.S.X.BlockHash.block32 c.args.layer.p.chunk c.args.layer.p.width c.args.layer.height (overlaid c.args.target.size b c.args.target.offset c.args.piece.now)) (g.S.Store.seen c.args.store.now).told
+
+pub change-returns-then-layer-eq0-clause-no_other : goal.change-returns-then-layer-eq0-clause-no_other
+change-returns-then-layer-eq0-clause-no_other g t c = λ zeros b is before now.
+    leaf-saves g.S.X.BlockHash.block32 c.args.layer.p (g.S.Store.seen c.args.store.now).told (g.S.Store.seen c.change_leaf.new.store).told c.args.layer.top c.args.layer.height c.args.target.size c.args.target.offset c.min-at.result c.args.target.old b c.args.piece.now c.if-layer-eq0.true c.min-at.ensures c.requires.within c.change_leaf.ensures.no_other is before now
+
+pub change-returns-clause-no_other : goal.change-returns-clause-no_other
+change-returns-clause-no_other g t c =
+    let some = c.if-layer-eq0.false in
+    subst (λ (k : ℕ). SavesOfPart g.S.X.BlockHash.block32 c.args.layer k c.args.target c.args.piece.now (g.S.Store.seen c.args.store.now) (g.S.Store.seen c.change_node.new.store)) (let e : c.args.layer.height - 1 + 1 ≡ c.args.layer.height = omega arith in e) c.change_node.ensures.no_other
+
+pub change_node-returns-in_err-olds-clause-no_other : goal.change_node-returns-in_err-olds-clause-no_other
+change_node-returns-in_err-olds-clause-no_other g t c = λ zeros b is before now.
+    SavesAmong-same g.S.X.BlockHash.block32 (blocks_over g.S.X.BlockHash.block32 c.args.layer.p.chunk c.args.layer.p.width (c.args.layer.height + 1) (overlaid c.args.target.size b c.args.target.offset c.args.piece.now)) (g.S.Store.seen c.args.store.now).told (g.S.Store.seen c.parts_below.new.store).told c.in_err-olds.ensures.reads.1
+
+pub change_node-returns-in_err-news-clause-no_other : goal.change_node-returns-in_err-news-clause-no_other
+change_node-returns-in_err-news-clause-no_other g t c = λ zeros b is before now.
+    below-saves g.S.X.BlockHash.block32 c.args.layer.p (g.S.Store.seen c.args.store.now).told (g.S.Store.seen c.parts_below.new.store).told (g.S.Store.seen c.change_parts.new.store).told c.args.layer.top c.args.layer.height c.args.target.size c.args.target.offset c.args.target.old b c.args.piece.now c.in_ok-olds.olds c.as_slice.result.now
+    c.in_ok-olds.ensures.reads.1 (c.in_ok-olds.ensures.gives.0 b is before) c.as_slice.ensures (c.in_err-news.ensures.no_other (subst (λ (x : Told). IsBlank g.S.X.BlockHash.block32 c.args.layer.p x 0 c.args.layer.zeros) (sym c.in_ok-olds.ensures.reads.1) zeros)) before now
+
+pub change_node-returns-clause-no_other : goal.change_node-returns-clause-no_other
+change_node-returns-clause-no_other g t c = λ zeros b is before now.
+    node-saves g.S.X.BlockHash.block32 c.args.layer.p (g.S.Store.seen c.args.store.now).told (g.S.Store.seen c.parts_below.new.store).told (g.S.Store.seen c.change_parts.new.store).told c.args.layer.top c.args.layer.height c.args.target.size c.args.target.offset c.args.target.old b c.args.piece.now c.in_ok-olds.olds c.as_slice.result.now
+    c.in_ok-olds.ensures.reads.1 (c.in_ok-olds.ensures.gives.0 b is before) c.as_slice.ensures (c.in_ok-news.ensures.no_other (subst (λ (x : Told). IsBlank g.S.X.BlockHash.block32 c.args.layer.p x 0 c.args.layer.zeros) (sym c.in_ok-olds.ensures.reads.1) zeros)) before
+    (g.S.Store.seen c.save_node.new.store).told c.in_ok-news.news c.as_slice-2.result.now c.in_ok-news.ensures.saves.1 c.save_node.ensures.saves (c.in_ok-news.ensures.gives.0 (subst (λ (x : Told). IsBlank g.S.X.BlockHash.block32 c.args.layer.p x 0 c.args.layer.zeros) (sym c.in_ok-olds.ensures.reads.1) zeros)) c.as_slice-2.ensures
+    (SavesAmong-either g.S.X.BlockHash.block32 c.save_node.result (node_held g.S.X.BlockHash.block32 c.as_slice-2.result.now) (g.S.Store.seen c.change_parts.new.store) (g.S.Store.seen c.save_node.new.store) refl c.save_node.ensures.kept c.save_node.ensures.err) now
+
+pub change_one-returns-in-Some-clause-no_other : goal.change_one-returns-in-Some-clause-no_other
+change_one-returns-in-Some-clause-no_other g t c = λ zeros b is before now.
+    SavesAmong-refl g.S.X.BlockHash.block32 (blocks_over g.S.X.BlockHash.block32 c.args.layer.p.chunk c.args.layer.p.width c.args.layer.height (overlaid c.args.target.size b c.args.target.offset c.args.piece.now)) (g.S.Store.seen c.args.store.now).told
+
+pub change_parts-returns-in_err-part-clause-no_other : goal.change_parts-returns-in_err-part-clause-no_other
+change_parts-returns-in_err-part-clause-no_other g t c = λ zeros gs are before now.
+    turn-saves g.S.X.BlockHash.block32 (record { size = g.met.S.X.BlockHash.size; are_bytes = g.met.S.X.BlockHash.are_bytes }) c.args.layer.p c.requires.profile c.args.layer.top c.args.layer.height c.args.target.size c.args.target.offset c.parts.left c.parts.at c.parts.place c.min-count.result c.span_of-most.result c.min-cut.result c.args.olds.now c.parts.news c.args.piece.now c.parts.rest.now gs c.part_at-old.result
+    c.span_of-most.ensures c.min-count.ensures (c.min-cut.ensures ∙ ap (min (length c.parts.rest.now)) c.saturating_sub.ensures) c.part_at-old.ensures c.requires.size c.parts.invariant.left_is (let more = c.parts-test.true in omega arith) c.parts.invariant.within (g.S.Store.seen c.args.store.now).told (g.S.Store.seen c.parts.store).told (g.S.Store.seen c.change_one.new.store).told are c.parts.invariant.saves c.in_err-part.ensures.saves.1 before now
+    (λ a. (c.parts.invariant.gives zeros gs are before a).0) (λ a. c.parts.invariant.no_other zeros gs are before a)
+    (λ b is a d. c.in_err-part.ensures.no_other (blank-later g.S.X.BlockHash.block32 c.args.layer.p (g.S.Store.seen c.args.store.now).told (g.S.Store.seen c.parts.store).told 0 c.args.layer.zeros c.parts.invariant.good zeros) b is a d)
+
+pub change_parts-returns-in_err-push-clause-no_other : goal.change_parts-returns-in_err-push-clause-no_other
+change_parts-returns-in_err-push-clause-no_other g t c = λ zeros gs are before now.
+    turn-saves g.S.X.BlockHash.block32 (record { size = g.met.S.X.BlockHash.size; are_bytes = g.met.S.X.BlockHash.are_bytes }) c.args.layer.p c.requires.profile c.args.layer.top c.args.layer.height c.args.target.size c.args.target.offset c.parts.left c.parts.at c.parts.place c.min-count.result c.span_of-most.result c.min-cut.result c.args.olds.now c.parts.news c.args.piece.now c.parts.rest.now gs c.part_at-old.result
+    c.span_of-most.ensures c.min-count.ensures (c.min-cut.ensures ∙ ap (min (length c.parts.rest.now)) c.saturating_sub.ensures) c.part_at-old.ensures c.requires.size c.parts.invariant.left_is (let more = c.parts-test.true in omega arith) c.parts.invariant.within (g.S.Store.seen c.args.store.now).told (g.S.Store.seen c.parts.store).told (g.S.Store.seen c.change_one.new.store).told are c.parts.invariant.saves c.in_ok-part.ensures.saves.1 before now
+    (λ a. (c.parts.invariant.gives zeros gs are before a).0) (λ a. c.parts.invariant.no_other zeros gs are before a)
+    (λ b is a d. c.in_ok-part.ensures.no_other (blank-later g.S.X.BlockHash.block32 c.args.layer.p (g.S.Store.seen c.args.store.now).told (g.S.Store.seen c.parts.store).told 0 c.args.layer.zeros c.parts.invariant.good zeros) b is a d)
+
+pub change_parts-returns-clause-no_other : goal.change_parts-returns-clause-no_other
+change_parts-returns-clause-no_other g t c = c.parts.invariant.no_other

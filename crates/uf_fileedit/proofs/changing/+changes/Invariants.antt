@@ -6,6 +6,7 @@ use Rattle.uf_store.specs.Writing.{SavesOnly}
 use Rattle.uf_tree.specs.declared.nodes.Part.{Part}
 use Rattle.uf_tree.specs.FileSub.{span}
 use Rattle.uf_fileedit.specs.Changes.{AreOld, IsBlank, LiesWithin, blocks_of_all}
+use Rattle.uf_fileedit.specs.Saving.{SavesOfParts}
 use Rattle.uf_fileedit.specs.Touches.{AreBelow, IsChangeWithin}
 use Rattle.uf_fileedit.proofs.Numbers.{Room}
 use Rattle.uf_fileedit.proofs.Touching.{chunks_in}
@@ -49,4 +50,5 @@ invariant-change_parts-parts g l = record {
   calm : StaysCalm (g.S.Store.seen l.initial.store) (g.S.Store.seen l.store);
   good : KeepsGood g.S.X.BlockHash.block32 (g.S.Store.seen l.initial.store).told (g.S.Store.seen l.store).told;
   saves : SavesOnly g.S.X.BlockHash.block32 (g.S.Store.seen l.initial.store).told (g.S.Store.seen l.store).told;
+  no_other : SavesOfParts g.S.X.BlockHash.block32 l.layer l.olds l.fn.target l.piece (g.S.Store.seen l.initial.store) (g.S.Store.seen l.store);
 }

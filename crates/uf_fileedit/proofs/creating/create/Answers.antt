@@ -1,8 +1,10 @@
+use Rattle.uf_tree.specs.FilePlan.{file_plan}
+use Rattle.uf_store.specs.Among.{SavesAmong}
 use Rattle.uf_store.specs.Writing.{IsSave}
 use Rattle.uf_store.proofs.Writing.{Wrote-good}
-use Rattle.std.proofs.Common.{◌+◌, length, refl}
-use Rattle.uf_fileedit.proofs.Edited.{some_bytes}
-use Rattle.uf_fileedit.proofs.Made.{empty-costs, empty-file, made-costs, made-file}
+use Rattle.std.proofs.Common.{◌+◌, length, refl, List, ℕ, [], subst, sym}
+use Rattle.uf_fileedit.proofs.Edited.{some_bytes, laid_empty}
+use Rattle.uf_fileedit.proofs.Made.{empty-costs, empty-file, made-costs, made-file, laid-new}
 use Rattle.uf_fileedit.proofs.creating.create.Goals as goal
 
 pub returns-clause-value : goal.returns-clause-value
@@ -49,3 +51,15 @@ returns-in_err-save_new-2-clause-good g c = Wrote-good g.S.X.BlockHash.block32 I
 
 pub returns-clause-good : goal.returns-clause-good
 returns-clause-good g c = Wrote-good g.S.X.BlockHash.block32 IsSave ((g.S.Store.seen c.args.store.now).told) ((g.S.Store.seen c.save_new-2.new.store).told) c.in_ok-save_new-2.ensures.saves.1
+
+pub returns-in_err-save_new-clause-no_other : goal.returns-in_err-save_new-clause-no_other
+returns-in_err-save_new-clause-no_other g c = subst (λ (l : List ℕ). SavesAmong g.S.X.BlockHash.block32 (file_plan g.S.X.BlockHash.block32 c.args.p.now c.args.meta.now l).blocks (g.S.Store.seen c.args.store.now).told (g.S.Store.seen c.save_new.new.store).told) (sym (laid_empty [] c.args.offset c.args.piece.now c.is_empty.result c.is_empty.ensures c.if-is_empty.true)) c.in_err-save_new.ensures.no_other
+
+pub returns-then-is_empty-clause-no_other : goal.returns-then-is_empty-clause-no_other
+returns-then-is_empty-clause-no_other g c = subst (λ (l : List ℕ). SavesAmong g.S.X.BlockHash.block32 (file_plan g.S.X.BlockHash.block32 c.args.p.now c.args.meta.now l).blocks (g.S.Store.seen c.args.store.now).told (g.S.Store.seen c.save_new.new.store).told) (sym (laid_empty [] c.args.offset c.args.piece.now c.is_empty.result c.is_empty.ensures c.if-is_empty.true)) c.in_ok-save_new.ensures.no_other
+
+pub returns-in_err-save_new-2-clause-no_other : goal.returns-in_err-save_new-2-clause-no_other
+returns-in_err-save_new-2-clause-no_other g c = subst (λ (l : List ℕ). SavesAmong g.S.X.BlockHash.block32 (file_plan g.S.X.BlockHash.block32 c.args.p.now c.args.meta.now l).blocks (g.S.Store.seen c.args.store.now).told (g.S.Store.seen c.save_new-2.new.store).told) (laid-new c.args.offset c.args.piece.now (c.args.offset + length c.args.piece.now) refl (some_bytes (length c.args.piece.now) c.is_empty.result c.is_empty.ensures c.if-is_empty.false)) c.in_err-save_new-2.ensures.no_other
+
+pub returns-clause-no_other : goal.returns-clause-no_other
+returns-clause-no_other g c = subst (λ (l : List ℕ). SavesAmong g.S.X.BlockHash.block32 (file_plan g.S.X.BlockHash.block32 c.args.p.now c.args.meta.now l).blocks (g.S.Store.seen c.args.store.now).told (g.S.Store.seen c.save_new-2.new.store).told) (laid-new c.args.offset c.args.piece.now (c.args.offset + length c.args.piece.now) refl (some_bytes (length c.args.piece.now) c.is_empty.result c.is_empty.ensures c.if-is_empty.false)) c.in_ok-save_new-2.ensures.no_other

@@ -1,3 +1,6 @@
+use Rattle.uf_fileedit.proofs.Saving.{empty-saves, told-saves, zeros-saves}
+use Rattle.uf_fileedit.specs.Saving.{blocks_changed}
+use Rattle.uf_store.proofs.Among.{SavesAmong-trans}
 use Rattle.std.proofs.Common.{ℕ, [], ◌+◌, length, min, arith, refl, subst, sym, Err, Option, rules}
 use Rattle.std.proofs.lemmas.Result.{err_from_is_err_and}
 use Rattle.uf_edge.specs.Counts.{Stood}
@@ -81,3 +84,38 @@ returns-clause-saves g c = (
   search rules,
   (SavesOnly-trans g.S.X.BlockHash.block32 ((g.S.Store.seen c.args.store.now).told) ((g.S.Store.seen c.save_zeros.new.store).told) ((g.S.Store.seen c.change_parts.new.store).told) c.in_ok-zeros.ensures.saves.2 c.change_parts.ensures.saves.1),
 )
+
+-- ---- what is saved
+
+pub returns-in_err-leaf-clause-no_other : goal.returns-in_err-leaf-clause-no_other
+returns-in_err-leaf-clause-no_other g c =
+    told-saves g.S.X.BlockHash.block32 (blocks_changed g.S.X.BlockHash.block32 c.args.layer c.args.target [] c.args.piece.now) (g.S.Store.seen c.args.store.now).told (g.S.Store.seen c.change_leaf.new.store).told c.in_err-leaf.ensures.saves.1 (λ agrees agrees_now.
+    empty-saves g.S.X.BlockHash.block32 c.args.layer.p (g.S.Store.seen c.args.store.now).told (g.S.Store.seen c.change_leaf.new.store).told c.args.layer.height c.args.target.size c.args.target.offset [] c.args.piece.now (c.requires.low c.if-target-eq0.true) c.if-target-eq0.true
+    (c.in_err-leaf.ensures.no_other c.args.layer.p [] refl agrees agrees_now))
+
+pub returns-in_err-just-clause-no_other : goal.returns-in_err-just-clause-no_other
+returns-in_err-just-clause-no_other g c =
+    told-saves g.S.X.BlockHash.block32 (blocks_changed g.S.X.BlockHash.block32 c.args.layer c.args.target [] c.args.piece.now) (g.S.Store.seen c.args.store.now).told (g.S.Store.seen c.change_leaf.new.store).told c.in_ok-leaf.ensures.saves.1 (λ agrees agrees_now.
+    empty-saves g.S.X.BlockHash.block32 c.args.layer.p (g.S.Store.seen c.args.store.now).told (g.S.Store.seen c.change_leaf.new.store).told c.args.layer.height c.args.target.size c.args.target.offset [] c.args.piece.now (c.requires.low c.if-target-eq0.true) c.if-target-eq0.true
+    (c.in_ok-leaf.ensures.no_other c.args.layer.p [] refl agrees agrees_now))
+
+pub returns-then-target-eq0-clause-no_other : goal.returns-then-target-eq0-clause-no_other
+returns-then-target-eq0-clause-no_other g c =
+    told-saves g.S.X.BlockHash.block32 (blocks_changed g.S.X.BlockHash.block32 c.args.layer c.args.target [] c.args.piece.now) (g.S.Store.seen c.args.store.now).told (g.S.Store.seen c.change_leaf.new.store).told c.in_ok-leaf.ensures.saves.1 (λ agrees agrees_now.
+    empty-saves g.S.X.BlockHash.block32 c.args.layer.p (g.S.Store.seen c.args.store.now).told (g.S.Store.seen c.change_leaf.new.store).told c.args.layer.height c.args.target.size c.args.target.offset [] c.args.piece.now (c.requires.low c.if-target-eq0.true) c.if-target-eq0.true
+    (c.in_ok-leaf.ensures.no_other c.args.layer.p [] refl agrees agrees_now))
+
+pub returns-in_err-zeros-clause-no_other : goal.returns-in_err-zeros-clause-no_other
+returns-in_err-zeros-clause-no_other g c =
+    zeros-saves g.S.X.BlockHash.block32 c.args.layer.p c.requires.profile c.args.layer.height c.args.target.size c.args.target.offset 0 c.args.target.offset [] c.args.piece.now (g.S.Store.seen c.args.store.now).told (g.S.Store.seen c.save_zeros.new.store).told (omega arith)
+    (c.requires.early (let n = c.if-target-eq0.false in omega arith)) (λ some. omega arith) c.in_err-zeros.ensures.no_other c.in_err-zeros.ensures.none
+
+pub returns-clause-no_other : goal.returns-clause-no_other
+returns-clause-no_other g c =
+    told-saves g.S.X.BlockHash.block32 (blocks_changed g.S.X.BlockHash.block32 c.args.layer c.args.target [] c.args.piece.now) (g.S.Store.seen c.args.store.now).told (g.S.Store.seen c.change_parts.new.store).told (SavesOnly-trans g.S.X.BlockHash.block32 (g.S.Store.seen c.args.store.now).told (g.S.Store.seen c.save_zeros.new.store).told (g.S.Store.seen c.change_parts.new.store).told c.in_ok-zeros.ensures.saves.2 c.change_parts.ensures.saves.1) (λ agrees agrees_now.
+    SavesAmong-trans g.S.X.BlockHash.block32 (blocks_changed g.S.X.BlockHash.block32 c.args.layer c.args.target [] c.args.piece.now) (g.S.Store.seen c.args.store.now).told (g.S.Store.seen c.save_zeros.new.store).told (g.S.Store.seen c.change_parts.new.store).told
+    (zeros-saves g.S.X.BlockHash.block32 c.args.layer.p c.requires.profile c.args.layer.height c.args.target.size c.args.target.offset 0 c.args.target.offset [] c.args.piece.now (g.S.Store.seen c.args.store.now).told (g.S.Store.seen c.save_zeros.new.store).told (omega arith)
+    (c.requires.early (let n = c.if-target-eq0.false in omega arith)) (λ some. omega arith) c.in_ok-zeros.ensures.no_other c.in_ok-zeros.ensures.none)
+    (c.change_parts.ensures.no_other (c.in_ok-zeros.ensures.blank c.args.layer.p) []
+    (nothing-old g.S.X.BlockHash.block32 c.args.layer.p (span c.args.layer.p.chunk c.args.layer.p.width c.args.layer.height) (min c.args.layer.top c.args.layer.height) [] refl)
+    (agrees-between g.S.X.BlockHash.block32 IsSave (g.S.Store.seen c.args.store.now).told (g.S.Store.seen c.save_zeros.new.store).told (g.S.Store.seen c.change_parts.new.store).told [] c.in_ok-zeros.ensures.saves.2 c.change_parts.ensures.saves.1 (record { first = agrees; last = agrees_now })) agrees_now))

@@ -1,3 +1,6 @@
+use Rattle.uf_fileedit.proofs.Saving.{new-saves, new-saves-below, told-saves}
+use Rattle.uf_fileedit.specs.Changes.{overlaid}
+use Rattle.uf_tree.specs.FilePlan.{file_plan}
 use Rattle.std.proofs.Common.{◌-◌, [], length, arith, Err, rules}
 use Rattle.std.proofs.lemmas.Result.{err_from_is_err_and}
 use Rattle.uf_store.specs.Writing.{IsSave}
@@ -82,3 +85,20 @@ pub returns-in_err-part-clause-touches : goal.returns-in_err-part-clause-touches
 returns-in_err-part-clause-touches g c = λ after a z high within.
     new-costs c.args.p.now c.requires.profile c.args.target.size c.heights_of-at.result c.heights_of-at.ensures after (z - a) c.args.touches.now c.new_parts.new.touches c.save_over.new.touches high
     (c.in_ok-parts.ensures.touches a z within) c.in_err-part.ensures.touches
+
+-- ---- what is saved
+
+pub returns-in_err-parts-clause-no_other : goal.returns-in_err-parts-clause-no_other
+returns-in_err-parts-clause-no_other g c = new-saves-below g.S.X.BlockHash.block32 (record { size = g.met.S.X.BlockHash.size; are_bytes = g.met.S.X.BlockHash.are_bytes }) c.args.p.now c.requires.profile c.args.target.size c.heights_of-at.result c.heights_of-at.ensures c.args.meta.now c.args.target.offset c.args.piece.now (g.S.Store.seen c.args.store.now).told (g.S.Store.seen c.new_parts.new.store).told c.in_err-parts.ensures.no_other
+
+pub returns-in_err-part-clause-no_other : goal.returns-in_err-part-clause-no_other
+returns-in_err-part-clause-no_other g c =
+    told-saves g.S.X.BlockHash.block32 (file_plan g.S.X.BlockHash.block32 c.args.p.now c.args.meta.now (overlaid c.args.target.size [] c.args.target.offset c.args.piece.now)).blocks (g.S.Store.seen c.args.store.now).told (g.S.Store.seen c.save_over.new.store).told (SavesOnly-trans g.S.X.BlockHash.block32 (g.S.Store.seen c.args.store.now).told (g.S.Store.seen c.new_parts.new.store).told (g.S.Store.seen c.save_over.new.store).told c.in_ok-parts.ensures.saves.1 c.in_err-part.ensures.saves.2)
+    (new-saves g.S.X.BlockHash.block32 (record { size = g.met.S.X.BlockHash.size; are_bytes = g.met.S.X.BlockHash.are_bytes }) c.args.p.now c.requires.profile c.args.target.size c.heights_of-at.result c.heights_of-at.ensures c.args.meta.now c.args.target.offset c.args.piece.now (g.S.Store.seen c.args.store.now).told (g.S.Store.seen c.new_parts.new.store).told c.in_ok-parts.ensures.no_other
+    (g.S.Store.seen c.save_over.new.store).told c.in_ok-parts.parts c.as_slice.result.now c.in_ok-parts.ensures.saves.1 c.in_err-part.ensures.saves.2 c.in_ok-parts.ensures.gives.0 c.as_slice.ensures c.in_err-part.ensures.no_other)
+
+pub returns-clause-no_other : goal.returns-clause-no_other
+returns-clause-no_other g c =
+    told-saves g.S.X.BlockHash.block32 (file_plan g.S.X.BlockHash.block32 c.args.p.now c.args.meta.now (overlaid c.args.target.size [] c.args.target.offset c.args.piece.now)).blocks (g.S.Store.seen c.args.store.now).told (g.S.Store.seen c.save_over.new.store).told (SavesOnly-trans g.S.X.BlockHash.block32 (g.S.Store.seen c.args.store.now).told (g.S.Store.seen c.new_parts.new.store).told (g.S.Store.seen c.save_over.new.store).told c.in_ok-parts.ensures.saves.1 c.in_ok-part.ensures.saves.2)
+    (new-saves g.S.X.BlockHash.block32 (record { size = g.met.S.X.BlockHash.size; are_bytes = g.met.S.X.BlockHash.are_bytes }) c.args.p.now c.requires.profile c.args.target.size c.heights_of-at.result c.heights_of-at.ensures c.args.meta.now c.args.target.offset c.args.piece.now (g.S.Store.seen c.args.store.now).told (g.S.Store.seen c.new_parts.new.store).told c.in_ok-parts.ensures.no_other
+    (g.S.Store.seen c.save_over.new.store).told c.in_ok-parts.parts c.as_slice.result.now c.in_ok-parts.ensures.saves.1 c.in_ok-part.ensures.saves.2 c.in_ok-parts.ensures.gives.0 c.as_slice.ensures c.in_ok-part.ensures.no_other)

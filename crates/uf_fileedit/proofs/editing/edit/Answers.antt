@@ -1,3 +1,6 @@
+use Rattle.uf_fileedit.proofs.Saving.{edit-saves, edit-saves-below}
+use Rattle.uf_fileedit.specs.Files.{bytes_edited}
+use Rattle.uf_store.proofs.Among.{SavesAmong-same}
 use Rattle.std.proofs.Common.{◌≡◌, ◌≤◌, ◌<◌, ◌+◌, ◌-◌, ◌^◌, ℕ, [], ◌∷◌, length, ap, arith, refl, subst, sym, ◌∙◌, Err, rules}
 use Rattle.std.proofs.lemmas.Bool.{false≢true}
 use Rattle.std.proofs.lemmas.Result.{err_from_is_err_and}
@@ -165,3 +168,28 @@ returns-in_err-part-clause-same g c = λ m b height is agrees alike none. absurd
 pub returns-in_err-news-clause-same : goal.returns-in_err-news-clause-same
 returns-in_err-news-clause-same g c = λ m b height is agrees alike none. absurd (differs g.S.X.BlockHash.block32 (record { size = g.met.S.X.BlockHash.size; are_bytes = g.met.S.X.BlockHash.are_bytes }) c.args.p.now m b c.args.entry.now.cid height is ((g.S.Store.seen c.args.store.now).told) agrees c.in_ok-root.root c.in_ok-root.ensures.gives.0 c.size_over-old.result (c.size_over-old.ensures ∙ ap bytes_over c.as_slice.ensures)
     c.size_after-size.result c.args.extent.wanted c.args.extent.offset (length c.args.piece.now) c.size_after-size.ensures (λ same. false≢true (sym c.if-is_same.false ∙ c.is_same.ensures.1 same)) alike none)
+
+-- ---- what is saved
+
+pub returns-in_err-root-clause-no_other : goal.returns-in_err-root-clause-no_other
+returns-in_err-root-clause-no_other g c = λ m b height is stays. SavesAmong-same g.S.X.BlockHash.block32 (file_plan g.S.X.BlockHash.block32 c.args.p.now m (bytes_edited c.args.extent.wanted c.args.extent.offset c.args.piece.now b)).blocks (g.S.Store.seen c.args.store.now).told (g.S.Store.seen c.root_of.new.store).told c.in_err-root.ensures.reads.1
+
+pub returns-then-is_same-clause-no_other : goal.returns-then-is_same-clause-no_other
+returns-then-is_same-clause-no_other g c = λ m b height is stays. SavesAmong-same g.S.X.BlockHash.block32 (file_plan g.S.X.BlockHash.block32 c.args.p.now m (bytes_edited c.args.extent.wanted c.args.extent.offset c.args.piece.now b)).blocks (g.S.Store.seen c.args.store.now).told (g.S.Store.seen c.root_of.new.store).told c.in_ok-root.ensures.reads.1
+
+pub returns-in_err-news-clause-no_other : goal.returns-in_err-news-clause-no_other
+returns-in_err-news-clause-no_other g c = λ m b height is stays.
+    edit-saves-below g.S.X.BlockHash.block32 (record { size = g.met.S.X.BlockHash.size; are_bytes = g.met.S.X.BlockHash.are_bytes }) c.args.p.now m b c.args.entry.now.cid height is (g.S.Store.seen c.args.store.now).told stays.first c.in_ok-root.root c.in_ok-root.ensures.gives.0 c.size_over-old.result (c.size_over-old.ensures ∙ ap bytes_over c.as_slice.ensures)
+    c.size_after-size.result c.heights_of-at.result c.heights_of-at.ensures c.args.extent.wanted c.args.extent.offset c.args.piece.now c.size_after-size.ensures (g.S.Store.seen c.root_of.new.store).told (g.S.Store.seen c.remade.new.store).told c.in_ok-root.ensures.reads.1 c.in_err-news.ensures.no_other stays.last
+
+pub returns-in_err-part-clause-no_other : goal.returns-in_err-part-clause-no_other
+returns-in_err-part-clause-no_other g c = λ m b height is stays.
+    edit-saves g.S.X.BlockHash.block32 (record { size = g.met.S.X.BlockHash.size; are_bytes = g.met.S.X.BlockHash.are_bytes }) c.args.p.now m b c.args.entry.now.cid height is (g.S.Store.seen c.args.store.now).told stays.first c.in_ok-root.root c.in_ok-root.ensures.gives.0 c.size_over-old.result (c.size_over-old.ensures ∙ ap bytes_over c.as_slice.ensures)
+    c.size_after-size.result c.heights_of-at.result c.heights_of-at.ensures c.args.extent.wanted c.args.extent.offset c.args.piece.now c.size_after-size.ensures (g.S.Store.seen c.root_of.new.store).told (g.S.Store.seen c.remade.new.store).told c.in_ok-root.ensures.reads.1 c.in_ok-news.ensures.no_other
+    (g.S.Store.seen c.save_over.new.store).told c.in_ok-news.news c.as_slice-2.result.now c.in_ok-news.ensures.saves.1 c.in_err-part.ensures.saves.2 c.in_ok-news.ensures.gives.0 c.as_slice-2.ensures c.in_err-part.ensures.no_other stays.last
+
+pub returns-clause-no_other : goal.returns-clause-no_other
+returns-clause-no_other g c = λ m b height is stays.
+    edit-saves g.S.X.BlockHash.block32 (record { size = g.met.S.X.BlockHash.size; are_bytes = g.met.S.X.BlockHash.are_bytes }) c.args.p.now m b c.args.entry.now.cid height is (g.S.Store.seen c.args.store.now).told stays.first c.in_ok-root.root c.in_ok-root.ensures.gives.0 c.size_over-old.result (c.size_over-old.ensures ∙ ap bytes_over c.as_slice.ensures)
+    c.size_after-size.result c.heights_of-at.result c.heights_of-at.ensures c.args.extent.wanted c.args.extent.offset c.args.piece.now c.size_after-size.ensures (g.S.Store.seen c.root_of.new.store).told (g.S.Store.seen c.remade.new.store).told c.in_ok-root.ensures.reads.1 c.in_ok-news.ensures.no_other
+    (g.S.Store.seen c.save_over.new.store).told c.in_ok-news.news c.as_slice-2.result.now c.in_ok-news.ensures.saves.1 c.in_ok-part.ensures.saves.2 c.in_ok-news.ensures.gives.0 c.as_slice-2.ensures c.in_ok-part.ensures.no_other stays.last

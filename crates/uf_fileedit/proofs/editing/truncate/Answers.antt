@@ -1,7 +1,9 @@
+use Rattle.uf_tree.specs.FilePlan.{file_plan}
+use Rattle.uf_store.specs.Among.{SavesAmong}
 use Rattle.uf_store.specs.Writing.{IsSave}
 use Rattle.uf_store.proofs.Writing.{Wrote-good}
 use Rattle.std.proofs.lemmas.Result.{err_from_is_err_and}
-use Rattle.std.proofs.Common.{◌≤◌, arith, length, max}
+use Rattle.std.proofs.Common.{◌≤◌, arith, length, max, List, ℕ, subst}
 use Rattle.uf_fileedit.specs.Edits.{cut_to}
 use Rattle.uf_fileedit.specs.Touches.{cut_chunks}
 use Rattle.uf_fileedit.proofs.Bytes.{changed-cut}
@@ -45,3 +47,11 @@ returns-in_err-edit-clause-good g c = Wrote-good g.S.X.BlockHash.block32 IsSave 
 
 pub returns-clause-good : goal.returns-clause-good
 returns-clause-good g c = Wrote-good g.S.X.BlockHash.block32 IsSave ((g.S.Store.seen c.args.store.now).told) ((g.S.Store.seen c.edit.new.store).told) c.in_ok-edit.ensures.saves.1
+
+pub returns-in_err-edit-clause-no_other : goal.returns-in_err-edit-clause-no_other
+returns-in_err-edit-clause-no_other g c = λ m b height is stays.
+    subst (λ (l : List ℕ). SavesAmong g.S.X.BlockHash.block32 (file_plan g.S.X.BlockHash.block32 c.args.p.now m l).blocks (g.S.Store.seen c.args.store.now).told (g.S.Store.seen c.edit.new.store).told) (changed-cut c.args.size b 0) (c.in_err-edit.ensures.no_other m b height is stays)
+
+pub returns-clause-no_other : goal.returns-clause-no_other
+returns-clause-no_other g c = λ m b height is stays.
+    subst (λ (l : List ℕ). SavesAmong g.S.X.BlockHash.block32 (file_plan g.S.X.BlockHash.block32 c.args.p.now m l).blocks (g.S.Store.seen c.args.store.now).told (g.S.Store.seen c.edit.new.store).told) (changed-cut c.args.size b 0) (c.in_ok-edit.ensures.no_other m b height is stays)

@@ -1,3 +1,6 @@
+use Rattle.uf_tree.specs.FilePlan.{file_plan}
+use Rattle.uf_store.proofs.Among.{SavesAmong-refl}
+use Rattle.uf_store.specs.Among.{SavesAmong}
 use Rattle.uf_store.specs.Writing.{IsSave}
 use Rattle.uf_store.proofs.Writing.{Wrote-good}
 use Rattle.std.proofs.lemmas.Result.{err_from_is_err_and}
@@ -58,3 +61,16 @@ returns-in_err-edit-clause-good g c = Wrote-good g.S.X.BlockHash.block32 IsSave 
 
 pub returns-clause-good : goal.returns-clause-good
 returns-clause-good g c = Wrote-good g.S.X.BlockHash.block32 IsSave ((g.S.Store.seen c.args.store.now).told) ((g.S.Store.seen c.edit.new.store).told) c.in_ok-edit.ensures.saves.1
+
+pub returns-then-is_empty-clause-no_other : goal.returns-then-is_empty-clause-no_other
+returns-then-is_empty-clause-no_other g c = λ m b height is stays. SavesAmong-refl g.S.X.BlockHash.block32 (file_plan g.S.X.BlockHash.block32 c.args.p.now m (laid b c.args.offset c.args.piece.now)).blocks (g.S.Store.seen c.args.store.now).told
+
+pub returns-in_err-edit-clause-no_other : goal.returns-in_err-edit-clause-no_other
+returns-in_err-edit-clause-no_other g c = λ m b height is stays.
+    subst (λ (l : List ℕ). SavesAmong g.S.X.BlockHash.block32 (file_plan g.S.X.BlockHash.block32 c.args.p.now m l).blocks (g.S.Store.seen c.args.store.now).told (g.S.Store.seen c.edit.new.store).told) (changed-laid b c.args.offset c.args.piece.now (some_bytes (length c.args.piece.now) c.is_empty.result c.is_empty.ensures c.if-is_empty.false))
+    (c.in_err-edit.ensures.no_other m b height is stays)
+
+pub returns-clause-no_other : goal.returns-clause-no_other
+returns-clause-no_other g c = λ m b height is stays.
+    subst (λ (l : List ℕ). SavesAmong g.S.X.BlockHash.block32 (file_plan g.S.X.BlockHash.block32 c.args.p.now m l).blocks (g.S.Store.seen c.args.store.now).told (g.S.Store.seen c.edit.new.store).told) (changed-laid b c.args.offset c.args.piece.now (some_bytes (length c.args.piece.now) c.is_empty.result c.is_empty.ensures c.if-is_empty.false))
+    (c.in_ok-edit.ensures.no_other m b height is stays)

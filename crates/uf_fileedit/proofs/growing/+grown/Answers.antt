@@ -1,4 +1,7 @@
-use Rattle.std.proofs.Common.{◌≡◌, ◌≤◌, ◌<◌, ◌+◌, ◌-◌, ◌*◌, ℕ, suc, rules, List, [], length, take, drop, min, ap, arith, refl, subst, sym, ◌∙◌, None, Err}
+use Rattle.uf_fileedit.proofs.Saving.{base-saves, first-saves, firsts-saves, rest-saves}
+use Rattle.uf_tree.specs.FilePlan.{groups, node_held}
+use Rattle.uf_store.proofs.Among.{SavesAmong-kept, SavesAmong-same}
+use Rattle.std.proofs.Common.{◌≡◌, ◌≤◌, ◌<◌, ◌+◌, ◌-◌, ◌*◌, ℕ, suc, rules, List, [], length, take, drop, min, ap, arith, refl, subst, sym, ◌∙◌, None, Err, ◌∷◌}
 use Rattle.std.specs.List.{sum_by}
 use Rattle.std.proofs.lemmas.List.{length-take}
 use Rattle.std.proofs.lemmas.Result.{err_from_is_err_and}
@@ -11,7 +14,7 @@ use Rattle.uf_store.proofs.Writing.{SavesOnly-trans, Wrote-good, agrees-between}
 use Rattle.uf_tree.specs.FileSub.{span}
 use Rattle.uf_tree.specs.declared.nodes.Part.{Part}
 use Rattle.uf_tree.proofs.Told.{kept}
-use Rattle.uf_fileedit.specs.Changes.{HasSize, LiesWithin, LosesOfRoot, blocks_of_all}
+use Rattle.uf_fileedit.specs.Changes.{HasSize, LiesWithin, LosesOfRoot, blocks_of_all, overlaid}
 use Rattle.uf_fileedit.specs.Touches.{AreBelow}
 use Rattle.uf_fileedit.specs.Ways.{IsBadAmongOld}
 use Rattle.uf_fileedit.proofs.Blames.{none-among}
@@ -204,3 +207,41 @@ pub returns-in_err-behind-clause-touches : goal.returns-in_err-behind-clause-tou
 returns-in_err-behind-clause-touches g t c = λ first a z some is below.
     grow-touches c.args.layer.p c.requires.profile c.args.layer.top c.args.layer.height (let low = c.if-layer.false in let e : c.args.layer.top ≤ c.args.layer.height = omega arith in e) c.args.target.old first some c.args.target.size c.args.target.offset (length c.args.piece.now) a z is (c.requires.more (let low = c.if-layer.false in let e : c.args.layer.top ≤ c.args.layer.height = omega arith in e)) c.span_of-count.result c.min-cut.result (counted g.S.X.BlockHash.block32 (record { size = g.met.S.X.BlockHash.size; are_bytes = g.met.S.X.BlockHash.are_bytes }) c.args.layer.p c.requires.profile c.args.layer.height c.args.target.size c.args.target.offset c.span_of-count.result c.span_of-count.result c.min-cut.result c.args.piece.now c.span_of-count.ensures refl (c.requires.more (let low = c.if-layer.false in let e : c.args.layer.top ≤ c.args.layer.height = omega arith in e)) c.requires.size.small (c.min-cut.ensures ∙ ap (min (length c.args.piece.now)) c.saturating_sub.ensures)) (c.min-cut.ensures ∙ ap (min (length c.args.piece.now)) c.saturating_sub.ensures) (c.args.layer.height - 1) (length (take c.min-cut.result c.args.piece.now)) c.saturating_sub-2.result (length (take (length c.args.piece.now - c.min-cut.result) (drop c.min-cut.result c.args.piece.now))) c.args.touches.now c.grown.new.touches c.save_node.new.touches c.change_parts-2.new.touches (let low = c.if-layer.false in let s = c.requires.rows in let e : c.args.layer.height ≡ (c.args.layer.height - 1) + 1 = omega arith in e) (let m = (c.min-cut.ensures ∙ ap (min (length c.args.piece.now)) c.saturating_sub.ensures) in length-take c.min-cut.result c.args.piece.now ∙ (let e : min c.min-cut.result (length c.args.piece.now) ≡ c.min-cut.result = omega arith in e)) c.saturating_sub-2.ensures (rest-length c.args.piece.now c.min-cut.result)
     (λ a z within. c.in_ok-firsts.ensures.touches first a z some within (subst (λ n. AreBelow (span c.args.layer.p.chunk c.args.layer.p.width n) c.args.target.old c.args.olds.now) (sym (let low = c.if-layer.false in let s = c.requires.rows in let e : min (c.args.layer.top - 1) (c.args.layer.height - 1) ≡ min (c.args.layer.top - 1) c.args.layer.height = omega arith in e)) below)) c.in_ok-first.ensures.touches (λ a z within. c.in_ok-news.ensures.touches a z within (none-below (span c.args.layer.p.chunk c.args.layer.p.width c.args.layer.height) None [] refl refl))
+
+-- ---- what is saved
+
+pub returns-then-layer-clause-no_other : goal.returns-then-layer-clause-no_other
+returns-then-layer-clause-no_other g t c = λ zeros.
+    base-saves g.S.X.BlockHash.block32 c.args.layer.p c.args.layer.top c.args.layer.height c.if-layer.true c.args.olds.now (g.S.Store.seen c.args.store.now).told (g.S.Store.seen c.change_parts.new.store).told
+    (λ l. blocks_of_all g.S.X.BlockHash.block32 c.args.layer.p c.args.layer.height (groups (span c.args.layer.p.chunk c.args.layer.p.width c.args.layer.height) (overlaid c.args.target.size l c.args.target.offset c.args.piece.now))) (c.change_parts.ensures.no_other zeros)
+
+pub returns-in_err-firsts-clause-no_other : goal.returns-in_err-firsts-clause-no_other
+returns-in_err-firsts-clause-no_other g t c = λ zeros gs are fits agrees agrees_now.
+    firsts-saves g.S.X.BlockHash.block32 (record { size = g.met.S.X.BlockHash.size; are_bytes = g.met.S.X.BlockHash.are_bytes }) c.args.layer.p c.requires.profile c.args.layer.top c.args.layer.height (c.args.layer.height - 1) c.args.target.size c.args.target.offset c.span_of-count.result c.min-cut.result c.args.piece.now (let low = c.if-layer.false in let s = c.requires.rows in let e : c.args.layer.height ≡ (c.args.layer.height - 1) + 1 = omega arith in e) (let low = c.if-layer.false in let e : c.args.layer.top ≤ c.args.layer.height = omega arith in e) c.requires.rows c.span_of-count.ensures (c.requires.more (let low = c.if-layer.false in let e : c.args.layer.top ≤ c.args.layer.height = omega arith in e)) c.requires.size.small (c.min-cut.ensures ∙ ap (min (length c.args.piece.now)) c.saturating_sub.ensures) (g.S.Store.seen c.args.store.now).told (g.S.Store.seen c.grown.new.store).told c.args.olds.now c.in_err-firsts.ensures.saves.1 (c.in_err-firsts.ensures.no_other zeros) gs are fits agrees agrees_now
+
+pub returns-in_err-first-clause-no_other : goal.returns-in_err-first-clause-no_other
+returns-in_err-first-clause-no_other g t c = λ zeros gs are fits agrees agrees_now.
+    first-saves g.S.X.BlockHash.block32 (record { size = g.met.S.X.BlockHash.size; are_bytes = g.met.S.X.BlockHash.are_bytes }) c.args.layer.p c.requires.profile c.args.layer.top c.args.layer.height (c.args.layer.height - 1) c.args.target.size c.args.target.offset c.span_of-count.result c.min-cut.result c.args.piece.now (let low = c.if-layer.false in let s = c.requires.rows in let e : c.args.layer.height ≡ (c.args.layer.height - 1) + 1 = omega arith in e) (let low = c.if-layer.false in let e : c.args.layer.top ≤ c.args.layer.height = omega arith in e) c.requires.rows c.span_of-count.ensures (c.requires.more (let low = c.if-layer.false in let e : c.args.layer.top ≤ c.args.layer.height = omega arith in e)) c.requires.size.small (c.min-cut.ensures ∙ ap (min (length c.args.piece.now)) c.saturating_sub.ensures) (g.S.Store.seen c.args.store.now).told (g.S.Store.seen c.grown.new.store).told c.args.olds.now c.in_ok-firsts.ensures.saves.1 (c.in_ok-firsts.ensures.no_other zeros) gs are fits agrees
+    (g.S.Store.seen c.save_node.new.store).told c.in_ok-firsts.firsts c.as_slice.result.now c.in_err-first.ensures.saves (c.in_ok-firsts.ensures.gives.0 zeros) c.as_slice.ensures
+    (SavesAmong-same g.S.X.BlockHash.block32 (node_held g.S.X.BlockHash.block32 c.as_slice.result.now ∷ []) (g.S.Store.seen c.grown.new.store).told (g.S.Store.seen c.save_node.new.store).told c.in_err-first.ensures.err) agrees_now
+
+pub returns-in_err-news-clause-no_other : goal.returns-in_err-news-clause-no_other
+returns-in_err-news-clause-no_other g t c = λ zeros gs are fits agrees agrees_now.
+    rest-saves g.S.X.BlockHash.block32 (record { size = g.met.S.X.BlockHash.size; are_bytes = g.met.S.X.BlockHash.are_bytes }) c.args.layer.p c.requires.profile c.args.layer.top c.args.layer.height (c.args.layer.height - 1) c.args.target.size c.args.target.offset c.span_of-count.result c.min-cut.result c.args.piece.now (let low = c.if-layer.false in let s = c.requires.rows in let e : c.args.layer.height ≡ (c.args.layer.height - 1) + 1 = omega arith in e) (let low = c.if-layer.false in let e : c.args.layer.top ≤ c.args.layer.height = omega arith in e) c.requires.rows c.span_of-count.ensures (c.requires.more (let low = c.if-layer.false in let e : c.args.layer.top ≤ c.args.layer.height = omega arith in e)) c.requires.size.small (c.min-cut.ensures ∙ ap (min (length c.args.piece.now)) c.saturating_sub.ensures) (g.S.Store.seen c.args.store.now).told (g.S.Store.seen c.grown.new.store).told c.args.olds.now c.in_ok-firsts.ensures.saves.1 (c.in_ok-firsts.ensures.no_other zeros) gs are fits agrees
+    (g.S.Store.seen c.save_node.new.store).told c.in_ok-firsts.firsts c.as_slice.result.now c.in_ok-first.ensures.saves (c.in_ok-firsts.ensures.gives.0 zeros) c.as_slice.ensures
+    (SavesAmong-kept g.S.X.BlockHash.block32 (node_held g.S.X.BlockHash.block32 c.as_slice.result.now) (g.S.Store.seen c.grown.new.store) (g.S.Store.seen c.save_node.new.store) refl c.in_ok-first.ensures.kept)
+    (g.S.Store.seen c.change_parts-2.new.store).told [] c.saturating_sub-2.result c.saturating_sub-2.ensures refl c.in_err-news.ensures.saves.1 (c.in_err-news.ensures.no_other (blank-later g.S.X.BlockHash.block32 c.args.layer.p (g.S.Store.seen c.args.store.now).told (g.S.Store.seen c.save_node.new.store).told 0 c.args.layer.zeros (KeepsGood-trans g.S.X.BlockHash.block32 (g.S.Store.seen c.args.store.now).told (g.S.Store.seen c.grown.new.store).told (g.S.Store.seen c.save_node.new.store).told (Wrote-good g.S.X.BlockHash.block32 IsSave (g.S.Store.seen c.args.store.now).told (g.S.Store.seen c.grown.new.store).told c.in_ok-firsts.ensures.saves.1) c.in_ok-first.ensures.good) zeros)) agrees_now
+
+pub returns-in_err-behind-clause-no_other : goal.returns-in_err-behind-clause-no_other
+returns-in_err-behind-clause-no_other g t c = λ zeros gs are fits agrees agrees_now.
+    rest-saves g.S.X.BlockHash.block32 (record { size = g.met.S.X.BlockHash.size; are_bytes = g.met.S.X.BlockHash.are_bytes }) c.args.layer.p c.requires.profile c.args.layer.top c.args.layer.height (c.args.layer.height - 1) c.args.target.size c.args.target.offset c.span_of-count.result c.min-cut.result c.args.piece.now (let low = c.if-layer.false in let s = c.requires.rows in let e : c.args.layer.height ≡ (c.args.layer.height - 1) + 1 = omega arith in e) (let low = c.if-layer.false in let e : c.args.layer.top ≤ c.args.layer.height = omega arith in e) c.requires.rows c.span_of-count.ensures (c.requires.more (let low = c.if-layer.false in let e : c.args.layer.top ≤ c.args.layer.height = omega arith in e)) c.requires.size.small (c.min-cut.ensures ∙ ap (min (length c.args.piece.now)) c.saturating_sub.ensures) (g.S.Store.seen c.args.store.now).told (g.S.Store.seen c.grown.new.store).told c.args.olds.now c.in_ok-firsts.ensures.saves.1 (c.in_ok-firsts.ensures.no_other zeros) gs are fits agrees
+    (g.S.Store.seen c.save_node.new.store).told c.in_ok-firsts.firsts c.as_slice.result.now c.in_ok-first.ensures.saves (c.in_ok-firsts.ensures.gives.0 zeros) c.as_slice.ensures
+    (SavesAmong-kept g.S.X.BlockHash.block32 (node_held g.S.X.BlockHash.block32 c.as_slice.result.now) (g.S.Store.seen c.grown.new.store) (g.S.Store.seen c.save_node.new.store) refl c.in_ok-first.ensures.kept)
+    (g.S.Store.seen c.change_parts-2.new.store).told [] c.saturating_sub-2.result c.saturating_sub-2.ensures refl c.in_ok-news.ensures.saves.1 (c.in_ok-news.ensures.no_other (blank-later g.S.X.BlockHash.block32 c.args.layer.p (g.S.Store.seen c.args.store.now).told (g.S.Store.seen c.save_node.new.store).told 0 c.args.layer.zeros (KeepsGood-trans g.S.X.BlockHash.block32 (g.S.Store.seen c.args.store.now).told (g.S.Store.seen c.grown.new.store).told (g.S.Store.seen c.save_node.new.store).told (Wrote-good g.S.X.BlockHash.block32 IsSave (g.S.Store.seen c.args.store.now).told (g.S.Store.seen c.grown.new.store).told c.in_ok-firsts.ensures.saves.1) c.in_ok-first.ensures.good) zeros)) agrees_now
+
+pub returns-clause-no_other : goal.returns-clause-no_other
+returns-clause-no_other g t c = λ zeros gs are fits agrees agrees_now.
+    rest-saves g.S.X.BlockHash.block32 (record { size = g.met.S.X.BlockHash.size; are_bytes = g.met.S.X.BlockHash.are_bytes }) c.args.layer.p c.requires.profile c.args.layer.top c.args.layer.height (c.args.layer.height - 1) c.args.target.size c.args.target.offset c.span_of-count.result c.min-cut.result c.args.piece.now (let low = c.if-layer.false in let s = c.requires.rows in let e : c.args.layer.height ≡ (c.args.layer.height - 1) + 1 = omega arith in e) (let low = c.if-layer.false in let e : c.args.layer.top ≤ c.args.layer.height = omega arith in e) c.requires.rows c.span_of-count.ensures (c.requires.more (let low = c.if-layer.false in let e : c.args.layer.top ≤ c.args.layer.height = omega arith in e)) c.requires.size.small (c.min-cut.ensures ∙ ap (min (length c.args.piece.now)) c.saturating_sub.ensures) (g.S.Store.seen c.args.store.now).told (g.S.Store.seen c.grown.new.store).told c.args.olds.now c.in_ok-firsts.ensures.saves.1 (c.in_ok-firsts.ensures.no_other zeros) gs are fits agrees
+    (g.S.Store.seen c.save_node.new.store).told c.in_ok-firsts.firsts c.as_slice.result.now c.in_ok-first.ensures.saves (c.in_ok-firsts.ensures.gives.0 zeros) c.as_slice.ensures
+    (SavesAmong-kept g.S.X.BlockHash.block32 (node_held g.S.X.BlockHash.block32 c.as_slice.result.now) (g.S.Store.seen c.grown.new.store) (g.S.Store.seen c.save_node.new.store) refl c.in_ok-first.ensures.kept)
+    (g.S.Store.seen c.change_parts-2.new.store).told [] c.saturating_sub-2.result c.saturating_sub-2.ensures refl c.in_ok-news.ensures.saves.1 (c.in_ok-news.ensures.no_other (blank-later g.S.X.BlockHash.block32 c.args.layer.p (g.S.Store.seen c.args.store.now).told (g.S.Store.seen c.save_node.new.store).told 0 c.args.layer.zeros (KeepsGood-trans g.S.X.BlockHash.block32 (g.S.Store.seen c.args.store.now).told (g.S.Store.seen c.grown.new.store).told (g.S.Store.seen c.save_node.new.store).told (Wrote-good g.S.X.BlockHash.block32 IsSave (g.S.Store.seen c.args.store.now).told (g.S.Store.seen c.grown.new.store).told c.in_ok-firsts.ensures.saves.1) c.in_ok-first.ensures.good) zeros)) agrees_now

@@ -1,3 +1,8 @@
+use Rattle.uf_fileedit.proofs.Saving.{empty-saves, gap-saves, remade-saves}
+use Rattle.uf_fileedit.specs.Touches.{old_size}
+use Rattle.uf_tree.specs.FilePlan.{groups}
+use Rattle.uf_tree.specs.Cutting.{joined}
+use Rattle.uf_store.proofs.Among.{SavesAmong-same}
 use Rattle.std.proofs.Common.{◌-◌, ℕ, [], min, arith, refl, subst, sym, Err, rules}
 use Rattle.std.proofs.lemmas.Result.{err_from_is_err_and}
 use Rattle.uf_edge.specs.Counts.{Stood}
@@ -10,7 +15,7 @@ use Rattle.uf_store.proofs.Keeping.{KeepsGood-trans}
 use Rattle.uf_store.proofs.Writing.{SavesOnly-trans, Wrote-good}
 use Rattle.uf_tree.specs.FileSub.{span}
 use Rattle.uf_tree.specs.declared.nodes.Part.{Part}
-use Rattle.uf_fileedit.specs.Changes.{blocks_of_all}
+use Rattle.uf_fileedit.specs.Changes.{blocks_of_all, overlaid}
 use Rattle.uf_fileedit.specs.Ways.{IsBadAmongOld}
 use Rattle.uf_fileedit.proofs.Remade.{agrees-none, among-answers, empty-gives, first-touches, lost-none, none-answers, remade-all, remade-few, remade-misses}
 use Rattle.uf_fileedit.proofs.Steps.{saved-lost, saved-shows}
@@ -99,3 +104,35 @@ returns-then-target-eq0-clause-saves g c = (
   (c.in_ok-leaf.ensures.saves.0 c.args.layer.p c.args.layer.rows),
   search rules,
 )
+
+-- ---- what is saved
+
+pub returns-in_err-leaf-clause-no_other : goal.returns-in_err-leaf-clause-no_other
+returns-in_err-leaf-clause-no_other g c = λ gs held are fits agrees agrees_now.
+    empty-saves g.S.X.BlockHash.block32 c.args.layer.p (g.S.Store.seen c.args.store.now).told (g.S.Store.seen c.change_leaf.new.store).told c.args.layer.height c.args.target.size c.args.target.offset (joined gs) c.args.piece.now (c.requires.low c.if-target-eq0.true) c.if-target-eq0.true
+    (c.in_err-leaf.ensures.no_other c.args.layer.p [] refl (agrees-none (g.S.Store.seen c.args.store.now).told (blocks_of_all g.S.X.BlockHash.block32 c.args.layer.p (c.args.layer.top - 1) gs) agrees) (agrees-none (g.S.Store.seen c.change_leaf.new.store).told (blocks_of_all g.S.X.BlockHash.block32 c.args.layer.p (c.args.layer.top - 1) gs) agrees_now))
+
+pub returns-in_err-just-clause-no_other : goal.returns-in_err-just-clause-no_other
+returns-in_err-just-clause-no_other g c = λ gs held are fits agrees agrees_now.
+    empty-saves g.S.X.BlockHash.block32 c.args.layer.p (g.S.Store.seen c.args.store.now).told (g.S.Store.seen c.change_leaf.new.store).told c.args.layer.height c.args.target.size c.args.target.offset (joined gs) c.args.piece.now (c.requires.low c.if-target-eq0.true) c.if-target-eq0.true
+    (c.in_ok-leaf.ensures.no_other c.args.layer.p [] refl (agrees-none (g.S.Store.seen c.args.store.now).told (blocks_of_all g.S.X.BlockHash.block32 c.args.layer.p (c.args.layer.top - 1) gs) agrees) (agrees-none (g.S.Store.seen c.change_leaf.new.store).told (blocks_of_all g.S.X.BlockHash.block32 c.args.layer.p (c.args.layer.top - 1) gs) agrees_now))
+
+pub returns-then-target-eq0-clause-no_other : goal.returns-then-target-eq0-clause-no_other
+returns-then-target-eq0-clause-no_other g c = λ gs held are fits agrees agrees_now.
+    empty-saves g.S.X.BlockHash.block32 c.args.layer.p (g.S.Store.seen c.args.store.now).told (g.S.Store.seen c.change_leaf.new.store).told c.args.layer.height c.args.target.size c.args.target.offset (joined gs) c.args.piece.now (c.requires.low c.if-target-eq0.true) c.if-target-eq0.true
+    (c.in_ok-leaf.ensures.no_other c.args.layer.p [] refl (agrees-none (g.S.Store.seen c.args.store.now).told (blocks_of_all g.S.X.BlockHash.block32 c.args.layer.p (c.args.layer.top - 1) gs) agrees) (agrees-none (g.S.Store.seen c.change_leaf.new.store).told (blocks_of_all g.S.X.BlockHash.block32 c.args.layer.p (c.args.layer.top - 1) gs) agrees_now))
+
+pub returns-in_err-fronts-clause-no_other : goal.returns-in_err-fronts-clause-no_other
+returns-in_err-fronts-clause-no_other g c = λ gs held are fits agrees agrees_now.
+    SavesAmong-same g.S.X.BlockHash.block32 (blocks_of_all g.S.X.BlockHash.block32 c.args.layer.p c.args.layer.height (groups (span c.args.layer.p.chunk c.args.layer.p.width c.args.layer.height) (overlaid c.args.target.size (joined gs) c.args.target.offset c.args.piece.now))) (g.S.Store.seen c.args.store.now).told (g.S.Store.seen c.front_parts.new.store).told c.in_err-fronts.ensures.reads.1
+
+pub returns-in_err-zeros-clause-no_other : goal.returns-in_err-zeros-clause-no_other
+returns-in_err-zeros-clause-no_other g c = λ gs held are fits agrees agrees_now.
+    gap-saves g.S.X.BlockHash.block32 c.args.layer.p c.requires.profile c.args.layer.top c.args.layer.height c.args.target.size c.args.target.offset c.gap_start.result c.gap_end-end.result c.args.piece.now (g.S.Store.seen c.args.store.now).told (g.S.Store.seen c.front_parts.new.store).told (g.S.Store.seen c.save_zeros.new.store).told c.requires.fits c.requires.within c.in_ok-fronts.ensures.reads.1
+    (old_size c.args.target.old) c.gap_start.ensures c.gap_end-end.ensures.filled c.gap_end-end.ensures.laid c.in_err-zeros.ensures.no_other c.in_err-zeros.ensures.none c.in_err-zeros.ensures.saves.2 c.args.olds gs held
+
+pub returns-clause-no_other : goal.returns-clause-no_other
+returns-clause-no_other g c = λ gs held are fits agrees agrees_now.
+    remade-saves g.S.X.BlockHash.block32 c.args.layer.p c.requires.profile c.args.layer.top c.args.layer.height c.args.target.size c.args.target.offset c.gap_start.result c.gap_end-end.result c.args.piece.now (g.S.Store.seen c.args.store.now).told (g.S.Store.seen c.front_parts.new.store).told (g.S.Store.seen c.save_zeros.new.store).told c.requires.fits c.requires.within c.in_ok-fronts.ensures.reads.1
+    (old_size c.args.target.old) c.gap_start.ensures c.gap_end-end.ensures.filled c.gap_end-end.ensures.laid c.in_ok-zeros.ensures.no_other c.in_ok-zeros.ensures.none c.in_ok-zeros.ensures.saves.2 c.args.olds gs held
+    (g.S.Store.seen c.grown.new.store).told c.in_ok-fronts.fronts c.as_slice.result.now c.grown.ensures.saves.1 c.as_slice.ensures c.in_ok-fronts.ensures.gives.0 (c.grown.ensures.no_other (c.in_ok-zeros.ensures.blank c.args.layer.p)) are fits agrees agrees_now

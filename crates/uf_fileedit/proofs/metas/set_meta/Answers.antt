@@ -1,3 +1,6 @@
+use Rattle.uf_fileedit.proofs.Saving.{meta-saves}
+use Rattle.uf_tree.specs.FilePlan.{file_plan}
+use Rattle.uf_store.proofs.Among.{SavesAmong-same}
 use Rattle.uf_store.specs.Writing.{IsSave}
 use Rattle.uf_store.proofs.Writing.{Wrote-good}
 use Rattle.std.proofs.Common.{◌≡◌, subst, sym, ◌∙◌}
@@ -47,3 +50,17 @@ returns-clause-same g c = λ p b height is agrees.
 
 pub returns-clause-good : goal.returns-clause-good
 returns-clause-good g c = subst (λ (t : Told). KeepsGood g.S.X.BlockHash.block32 t ((g.S.Store.seen c.save_over.new.store).told)) c.in_ok-root.ensures.told (Wrote-good g.S.X.BlockHash.block32 IsSave ((g.S.Store.seen c.load_root.new.store).told) ((g.S.Store.seen c.save_over.new.store).told) c.in_ok-part.ensures.saves.2)
+
+pub returns-in_err-root-clause-no_other : goal.returns-in_err-root-clause-no_other
+returns-in_err-root-clause-no_other g c = λ p m b height is agrees. SavesAmong-same g.S.X.BlockHash.block32 (file_plan g.S.X.BlockHash.block32 p c.args.meta.now b).blocks (g.S.Store.seen c.args.store.now).told (g.S.Store.seen c.load_root.new.store).told c.in_err-root.ensures.told
+
+pub returns-then-eq-clause-no_other : goal.returns-then-eq-clause-no_other
+returns-then-eq-clause-no_other g c = λ p m b height is agrees. SavesAmong-same g.S.X.BlockHash.block32 (file_plan g.S.X.BlockHash.block32 p c.args.meta.now b).blocks (g.S.Store.seen c.args.store.now).told (g.S.Store.seen c.load_root.new.store).told c.in_ok-root.ensures.told
+
+pub returns-in_err-part-clause-no_other : goal.returns-in_err-part-clause-no_other
+returns-in_err-part-clause-no_other g c = λ p m b height is agrees.
+    meta-saves g.S.X.BlockHash.block32 p m c.args.meta.now b c.in_ok-root.root c.as_slice.result.now (g.S.Store.seen c.args.store.now).told (g.S.Store.seen c.load_root.new.store).told (g.S.Store.seen c.save_over.new.store).told (c.in_ok-root.ensures.gives.0 p m b height is (root-alone g.S.X.BlockHash.block32 (record { size = g.met.S.X.BlockHash.size; are_bytes = g.met.S.X.BlockHash.are_bytes }) p m b c.args.entry.now.cid height is (g.S.Store.seen c.args.store.now).told agrees)) c.as_slice.ensures c.in_ok-root.ensures.told c.in_err-part.ensures.no_other
+
+pub returns-clause-no_other : goal.returns-clause-no_other
+returns-clause-no_other g c = λ p m b height is agrees.
+    meta-saves g.S.X.BlockHash.block32 p m c.args.meta.now b c.in_ok-root.root c.as_slice.result.now (g.S.Store.seen c.args.store.now).told (g.S.Store.seen c.load_root.new.store).told (g.S.Store.seen c.save_over.new.store).told (c.in_ok-root.ensures.gives.0 p m b height is (root-alone g.S.X.BlockHash.block32 (record { size = g.met.S.X.BlockHash.size; are_bytes = g.met.S.X.BlockHash.are_bytes }) p m b c.args.entry.now.cid height is (g.S.Store.seen c.args.store.now).told agrees)) c.as_slice.ensures c.in_ok-root.ensures.told c.in_ok-part.ensures.no_other

@@ -1,4 +1,4 @@
-use Rattle.std.proofs.Common.{◌≤◌, ◌+◌, None, refl, subst, sym}
+use Rattle.std.proofs.Common.{◌≤◌, ◌+◌, None, refl, subst, sym, []}
 use Rattle.uf_store.specs.Calls.{OnlySaves}
 use Rattle.uf_tree.specs.Tree.{Dir}
 use Rattle.uf_tree.specs.TreePlan.{blocks}
@@ -9,6 +9,9 @@ use Rattle.uf_mfs.specs.Steps.{ChangesOver, stop_fault}
 use Rattle.uf_mfs.proofs.After.{back-among, stays-some}
 use Rattle.uf_mfs.proofs.Filling.{agreed-beside}
 use Rattle.uf_mfs.proofs.MetaEdits.{root-remade}
+use Rattle.uf_store.specs.Among.{SavesAmong}
+use Rattle.uf_mfs.specs.Saving.{next_blocks}
+use Rattle.uf_mfs.proofs.Saving.{throughout-agreed}
 use Rattle.uf_mfs.proofs.changing.edit_root.Goals as goal
 
 pub returns-in-Remake-clause-edits : goal.returns-in-Remake-clause-edits
@@ -35,3 +38,11 @@ returns-in-Remake-clause-saves g c =
 pub returns-in-Remake-clause-touches : goal.returns-in-Remake-clause-touches
 returns-in-Remake-clause-touches g c =
     subst (λ (act : Act). c.change_meta.new.touches ≤ c.args.touches.now + root_touches act) (sym c.in-Remake.is) c.change_meta.ensures.touches
+
+pub returns-in-Remake-clause-no_other : goal.returns-in-Remake-clause-no_other
+returns-in-Remake-clause-no_other g c =
+    λ es plan h.
+    let X = g.S.X.BlockHash.block32 in let N = g.N.NameHash.name64 in let p = c.args.site.now.profile in let root = c.args.root.now in
+    let a = g.S.Store.seen c.args.store.now in let b = g.S.Store.seen c.change_meta.new.store in
+    subst (λ (act : Act). SavesAmong X (next_blocks X N p (acted_root act es)) a.told b.told) (sym c.in-Remake.is)
+    (c.change_meta.ensures.no_other (Dir es) (throughout-agreed X N p a b [] root es plan h, tt) h)

@@ -25,6 +25,11 @@ use Rattle.uf_mfs.specs.Bad.{IsBadInTree}
 use Rattle.uf_mfs.proofs.Judging.{folder-required, tree-more}
 use Rattle.uf_mfs.specs.Acts.{act_brought, act_touches, acted}
 use Rattle.uf_mfs.proofs.Acting.{act-below, act-good, act-leads, act-way}
+use Rattle.uf_store.specs.Among.{SavesAmong}
+use Rattle.uf_store.proofs.Among.{SavesAmong-same, SavesAmong-trans}
+use Rattle.uf_mfs.specs.Saving.{act_blocks, between_blocks}
+use Rattle.uf_mfs.proofs.Saving.{below-saves, calm-of, path-saves, throughout-agreed, throughout-first, throughout-since}
+use Rattle.uf_mfs.proofs.SavingActs.{act-between}
 use Rattle.uf_mfs.proofs.editing.+edit.Goals as goal
 
 pub returns-in_err-entry-clause-edits : goal.returns-in_err-entry-clause-edits
@@ -265,3 +270,67 @@ returns-clause-missing g t c = λ put.
     let X = g.S.X.BlockHash.block32 in let N = g.N.NameHash.name64 in let p = c.args.site.now.profile in
     put-misses X N p (saves-saves (reads-saves {f = None} c.in_ok-found.ensures.reads) c.in_ok-entry.ensures.saves) c.put_in.ensures.saves
     c.args.folder.now c.args.name.now c.args.rest.now (stop_fault c.put_in.result) c.put_in.ensures.missing
+
+pub returns-in_err-found-clause-no_other : goal.returns-in_err-found-clause-no_other
+returns-in_err-found-clause-no_other g t c =
+    λ u meant es plan h. let X = g.S.X.BlockHash.block32 in let N = g.N.NameHash.name64 in
+    SavesAmong-same X _ _ _ c.in_err-found.ensures.reads.told
+
+pub returns-in_err-below-clause-no_other : goal.returns-in_err-below-clause-no_other
+returns-in_err-below-clause-no_other g t c =
+    λ u meant es plan h. let X = g.S.X.BlockHash.block32 in let N = g.N.NameHash.name64 in
+    SavesAmong-same X _ _ _ c.in_ok-found.ensures.reads.told
+
+pub returns-in_default-clause-no_other : goal.returns-in_default-clause-no_other
+returns-in_default-clause-no_other g t c =
+    λ u meant es plan h.
+    let X = g.S.X.BlockHash.block32 in let N = g.N.NameHash.name64 in let site = c.args.site.now in let p = site.profile in let name = c.args.name.now in let what = site.what in let piece = site.piece.now in let led = site.led in
+    let folder = c.args.folder.now in let a = g.S.Store.seen c.args.store.now in let b = g.S.Store.seen c.member.new.store in let d = g.S.Store.seen c.edit_here.new.store in let old = act_brought X N p what u in
+    let reads = c.in_ok-found.ensures.reads in
+    let member = c.in_ok-found.ensures.member p es (throughout-agreed X N p a d old folder es plan h) (calm-of a b h.can reads.cause).faults in
+    subst (λ (l : List (List ℕ)). SavesAmong X (act_blocks X N p what (name ∷ l) es (edited (acted p what piece u) led name l es)) a.told d.told) (no-names c.args.rest.now c.in_default.len_below)
+    (SavesAmong-trans X _ a.told b.told d.told (SavesAmong-same X _ a.told b.told reads.told)
+    (c.edit_here.ensures.no_other u es meant (subst (λ told. IsAgreedMember X N told p (child name es) c.in_ok-found.found) (sym reads.told) member) plan (throughout-since X N p a b d _ reads.told reads.cause h)))
+
+pub returns-in_err-entry-clause-no_other : goal.returns-in_err-entry-clause-no_other
+returns-in_err-entry-clause-no_other g t c =
+    λ u meant es plan h.
+    let X = g.S.X.BlockHash.block32 in let N = g.N.NameHash.name64 in let site = c.args.site.now in let p = site.profile in let name = c.args.name.now in let what = site.what in let piece = site.piece.now in let led = site.led in
+    let folder = c.args.folder.now in let a = g.S.Store.seen c.args.store.now in let b = g.S.Store.seen c.member.new.store in
+    let reads = c.in_ok-found.ensures.reads in let found = reads-saves {f = None} reads in
+    let more = take (length c.args.rest.now - 1) (drop 1 c.args.rest.now) in let next = c.next-item.result in
+    let names : next ∷ more ≡ c.args.rest.now = first-rest c.args.rest.now next c.in-len1-up.len_at_least c.next-item.is in
+    let leads = folder-there X N p (led + 1) folder c.in_ok-below.below name found (λ es o. c.in_ok-below.ensures.decides X N a.told p (child name es) (c.in_ok-found.ensures.member p es (agreed-over X N p folder es o) o.calm.faults)) in let e = g.S.Store.seen c.edit.new.store in
+    subst (λ (l : List (List ℕ)). SavesAmong X (act_blocks X N p what (name ∷ l) es (edited (acted p what piece u) led name l es)) a.told e.told) names (SavesAmong-trans X _ a.told b.told e.told (SavesAmong-same X _ a.told b.told reads.told)
+    (below-saves X N p found c.in_err-entry.ensures.saves folder c.in_ok-below.below (act_brought X N p what u) name (λ es. as_folder (led + 1) (child name es)) (edited (acted p what piece u) (led + 1) next more) (between_blocks X N p what (next ∷ more)) (between_blocks X N p what (name ∷ next ∷ more)) (act-good X N p what u) leads
+    (act-between X N p what (led + 1) name next more) (c.in_err-entry.ensures.no_other u meant) es plan h))
+
+pub returns-in_default-2-clause-no_other : goal.returns-in_default-2-clause-no_other
+returns-in_default-2-clause-no_other g t c =
+    λ u meant es plan h.
+    let X = g.S.X.BlockHash.block32 in let N = g.N.NameHash.name64 in let site = c.args.site.now in let p = site.profile in let name = c.args.name.now in let what = site.what in let piece = site.piece.now in let led = site.led in
+    let folder = c.args.folder.now in let a = g.S.Store.seen c.args.store.now in let b = g.S.Store.seen c.member.new.store in
+    let reads = c.in_ok-found.ensures.reads in let found = reads-saves {f = None} reads in
+    let more = take (length c.args.rest.now - 1) (drop 1 c.args.rest.now) in let next = c.next-item.result in
+    let names : next ∷ more ≡ c.args.rest.now = first-rest c.args.rest.now next c.in-len1-up.len_at_least c.next-item.is in
+    let leads = folder-there X N p (led + 1) folder c.in_ok-below.below name found (λ es o. c.in_ok-below.ensures.decides X N a.told p (child name es) (c.in_ok-found.ensures.member p es (agreed-over X N p folder es o) o.calm.faults)) in let e = g.S.Store.seen c.edit.new.store in
+    subst (λ (l : List (List ℕ)). SavesAmong X (act_blocks X N p what (name ∷ l) es (edited (acted p what piece u) led name l es)) a.told e.told) names (SavesAmong-trans X _ a.told b.told e.told (SavesAmong-same X _ a.told b.told reads.told)
+    (below-saves X N p found c.in_ok-entry.ensures.saves folder c.in_ok-below.below (act_brought X N p what u) name (λ es. as_folder (led + 1) (child name es)) (edited (acted p what piece u) (led + 1) next more) (between_blocks X N p what (next ∷ more)) (between_blocks X N p what (name ∷ next ∷ more)) (act-good X N p what u) leads
+    (act-between X N p what (led + 1) name next more) (c.in_ok-entry.ensures.no_other u meant) es plan h))
+
+pub returns-clause-no_other : goal.returns-clause-no_other
+returns-clause-no_other g t c =
+    λ u meant es plan h.
+    let X = g.S.X.BlockHash.block32 in let N = g.N.NameHash.name64 in let site = c.args.site.now in let p = site.profile in let name = c.args.name.now in let what = site.what in let piece = site.piece.now in let led = site.led in
+    let folder = c.args.folder.now in let a = g.S.Store.seen c.args.store.now in let b = g.S.Store.seen c.member.new.store in
+    let reads = c.in_ok-found.ensures.reads in let found = reads-saves {f = None} reads in
+    let more = take (length c.args.rest.now - 1) (drop 1 c.args.rest.now) in let next = c.next-item.result in
+    let names : next ∷ more ≡ c.args.rest.now = first-rest c.args.rest.now next c.in-len1-up.len_at_least c.next-item.is in
+    let leads = folder-there X N p (led + 1) folder c.in_ok-below.below name found (λ es o. c.in_ok-below.ensures.decides X N a.told p (child name es) (c.in_ok-found.ensures.member p es (agreed-over X N p folder es o) o.calm.faults)) in let e = g.S.Store.seen c.edit.new.store in let d = g.S.Store.seen c.put_in.new.store in
+    let edits = c.in_ok-entry.ensures.saves in let puts = c.put_in.ensures.saves in
+    subst (λ (l : List (List ℕ)). SavesAmong X (act_blocks X N p what (name ∷ l) es (edited (acted p what piece u) led name l es)) a.told d.told) names (SavesAmong-trans X _ a.told e.told d.told (SavesAmong-trans X _ a.told b.told e.told (SavesAmong-same X _ a.told b.told reads.told)
+    (below-saves X N p found edits folder c.in_ok-below.below (act_brought X N p what u) name (λ es. as_folder (led + 1) (child name es)) (edited (acted p what piece u) (led + 1) next more) (between_blocks X N p what (next ∷ more)) (between_blocks X N p what (name ∷ next ∷ more)) (act-good X N p what u) leads
+    (act-between X N p what (led + 1) name next more) (c.in_ok-entry.ensures.no_other u meant) es plan (throughout-first X N p (saves-saves found edits) puts _ h)))
+    (path-saves X N p folder c.in_ok-below.below c.in-Some.entry (act_brought X N p what u) name (λ es. as_folder (led + 1) (child name es)) (edited (acted p what piece u) (led + 1) next more) (between_blocks X N p what (name ∷ next ∷ more)) (act-good X N p what u) found leads edits
+    (subst (λ (o : Option Entry). ChangesFolder X N p b e (act_brought X N p what u) c.in_ok-below.below (edited (acted p what piece u) (led + 1) next more) (Ok o)) c.in-Some.is (c.in_ok-entry.ensures.edits u meant))
+    puts c.put_in.ensures.no_other es plan h))

@@ -12,6 +12,10 @@ use Rattle.uf_mfs.proofs.Judging.{bad-below, tree-more}
 use Rattle.uf_mfs.proofs.Filling.{filled-edits, filled-none, stood-before, there-not, there-under}
 use Rattle.uf_mfs.proofs.Folders.{path-put, path-stopped}
 use Rattle.uf_mfs.proofs.Meeting.{first-rest}
+use Rattle.uf_store.specs.Among.{SavesAmong}
+use Rattle.uf_store.proofs.Among.{SavesAmong-trans}
+use Rattle.uf_mfs.specs.Saving.{next_blocks}
+use Rattle.uf_mfs.proofs.Saving.{below-saves, none-among, opened-among, path-saves, saved-more, throughout-first}
 use Rattle.uf_mfs.proofs.editing.+fill.Goals as goal
 
 pub returns-in_err-filled-clause-fills : goal.returns-in_err-filled-clause-fills
@@ -141,3 +145,49 @@ returns-clause-touches g t c =
     (filled-edits X N p c.in_ok-start.start c.in_ok-filled.filled c.in-Some.below (made_all (led + 1) more) (sym c.below_of.ensures ∙ c.in-Some.is) c.in_ok-filled.ensures.saves c.in_ok-filled.ensures.fills)
     (touches-by X N p [] c.in_ok-start.start.0 _ _ c.open_or_make.new.touches c.fill.new.touches (λ es. omega arith) c.in_ok-filled.ensures.touches)
     c.put_in.ensures.saves c.put_in.ensures.touches))
+
+pub returns-in_err-start-clause-no_other : goal.returns-in_err-start-clause-no_other
+returns-in_err-start-clause-no_other g t c =
+    λ es plan h.
+    let X = g.S.X.BlockHash.block32 in let N = g.N.NameHash.name64 in let p = c.args.profile.now in let name = c.name-item.result in let folder = c.args.folder.now in let led = c.args.led in
+    let more = take (length c.args.names.now - 1) (drop 1 c.args.names.now) in
+    let names : name ∷ more ≡ c.args.names.now = first-rest c.args.names.now name c.in-len1-up.len_at_least c.name-item.is in
+    let a = g.S.Store.seen c.args.store.now in let b = g.S.Store.seen c.open_or_make.new.store in
+    subst (λ (l : List (List ℕ)). SavesAmong X (next_blocks X N p (made_all led l es)) a.told b.told) names (saved-more X _ _ a.told b.told (opened-among X N p led name more es) (c.in_err-start.ensures.no_other p es plan h))
+
+pub returns-in_err-filled-clause-no_other : goal.returns-in_err-filled-clause-no_other
+returns-in_err-filled-clause-no_other g t c =
+    λ es plan h.
+    let X = g.S.X.BlockHash.block32 in let N = g.N.NameHash.name64 in let p = c.args.profile.now in let name = c.name-item.result in let folder = c.args.folder.now in let led = c.args.led in
+    let more = take (length c.args.names.now - 1) (drop 1 c.args.names.now) in
+    let names : name ∷ more ≡ c.args.names.now = first-rest c.args.names.now name c.in-len1-up.len_at_least c.name-item.is in
+    let a = g.S.Store.seen c.args.store.now in let b = g.S.Store.seen c.open_or_make.new.store in let e = g.S.Store.seen c.fill.new.store in
+    subst (λ (l : List (List ℕ)). SavesAmong X (next_blocks X N p (made_all led l es)) a.told e.told) names (SavesAmong-trans X _ a.told b.told e.told
+    (saved-more X _ _ a.told b.told (opened-among X N p led name more es) (c.in_ok-start.ensures.no_other p es plan (throughout-first X N p c.in_ok-start.ensures.saves c.in_err-filled.ensures.saves _ h)))
+    (below-saves X N p c.in_ok-start.ensures.saves c.in_err-filled.ensures.saves folder c.in_ok-start.start.0 [] name (λ es. or_new (led + 1) (child name es)) (made_all (led + 1) more) (λ fs. []) (λ fs. []) tt (c.in_ok-start.ensures.opens p) (λ es below is. none-among []) c.in_err-filled.ensures.no_other es plan h))
+
+pub returns-in_default-below_of-clause-no_other : goal.returns-in_default-below_of-clause-no_other
+returns-in_default-below_of-clause-no_other g t c =
+    λ es plan h.
+    let X = g.S.X.BlockHash.block32 in let N = g.N.NameHash.name64 in let p = c.args.profile.now in let name = c.name-item.result in let folder = c.args.folder.now in let led = c.args.led in
+    let more = take (length c.args.names.now - 1) (drop 1 c.args.names.now) in
+    let names : name ∷ more ≡ c.args.names.now = first-rest c.args.names.now name c.in-len1-up.len_at_least c.name-item.is in
+    let a = g.S.Store.seen c.args.store.now in let b = g.S.Store.seen c.open_or_make.new.store in let e = g.S.Store.seen c.fill.new.store in
+    subst (λ (l : List (List ℕ)). SavesAmong X (next_blocks X N p (made_all led l es)) a.told e.told) names (SavesAmong-trans X _ a.told b.told e.told
+    (saved-more X _ _ a.told b.told (opened-among X N p led name more es) (c.in_ok-start.ensures.no_other p es plan (throughout-first X N p c.in_ok-start.ensures.saves c.in_ok-filled.ensures.saves _ h)))
+    (below-saves X N p c.in_ok-start.ensures.saves c.in_ok-filled.ensures.saves folder c.in_ok-start.start.0 [] name (λ es. or_new (led + 1) (child name es)) (made_all (led + 1) more) (λ fs. []) (λ fs. []) tt (c.in_ok-start.ensures.opens p) (λ es below is. none-among []) c.in_ok-filled.ensures.no_other es plan h))
+
+pub returns-clause-no_other : goal.returns-clause-no_other
+returns-clause-no_other g t c =
+    λ es plan h.
+    let X = g.S.X.BlockHash.block32 in let N = g.N.NameHash.name64 in let p = c.args.profile.now in let name = c.name-item.result in let folder = c.args.folder.now in let led = c.args.led in
+    let more = take (length c.args.names.now - 1) (drop 1 c.args.names.now) in
+    let names : name ∷ more ≡ c.args.names.now = first-rest c.args.names.now name c.in-len1-up.len_at_least c.name-item.is in
+    let a = g.S.Store.seen c.args.store.now in let b = g.S.Store.seen c.open_or_make.new.store in let e = g.S.Store.seen c.fill.new.store in let d = g.S.Store.seen c.put_in.new.store in
+    let opens = c.in_ok-start.ensures.saves in let fills = c.in_ok-filled.ensures.saves in let puts = c.put_in.ensures.saves in
+    subst (λ (l : List (List ℕ)). SavesAmong X (next_blocks X N p (made_all led l es)) a.told d.told) names (SavesAmong-trans X _ a.told e.told d.told (SavesAmong-trans X _ a.told b.told e.told
+    (saved-more X _ _ a.told b.told (opened-among X N p led name more es) (c.in_ok-start.ensures.no_other p es plan (throughout-first X N p opens (saves-saves fills puts) _ h)))
+    (below-saves X N p opens fills folder c.in_ok-start.start.0 [] name (λ es. or_new (led + 1) (child name es)) (made_all (led + 1) more) (λ fs. []) (λ fs. []) tt (c.in_ok-start.ensures.opens p) (λ es below is. none-among []) c.in_ok-filled.ensures.no_other es plan
+    (throughout-first X N p (saves-saves opens fills) puts _ h)))
+    (path-saves X N p folder c.in_ok-start.start.0 c.in-Some.below [] name (λ es. or_new (led + 1) (child name es)) (made_all (led + 1) more) (λ fs. []) tt opens (c.in_ok-start.ensures.opens p) fills
+    (filled-edits X N p c.in_ok-start.start c.in_ok-filled.filled c.in-Some.below (made_all (led + 1) more) (sym c.below_of.ensures ∙ c.in-Some.is) fills c.in_ok-filled.ensures.fills) puts c.put_in.ensures.no_other es plan h))

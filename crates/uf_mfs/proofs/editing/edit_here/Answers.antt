@@ -1,4 +1,4 @@
-use Rattle.std.proofs.Common.{◌≡◌, ◌+◌, ◌∙◌, [], arith, refl, subst, sym, Err, None, Ok, Option, Some}
+use Rattle.std.proofs.Common.{◌≡◌, ◌+◌, ◌∙◌, [], arith, refl, subst, sym, Err, None, Ok, Option, Some, ap, ◌∷◌}
 use Rattle.std.proofs.lemmas.Bool.{false≢true}
 use Rattle.std.proofs.lemmas.Result.{err_from_is_err_and}
 use Rattle.uf_store.proofs.Calls.{saves-saves}
@@ -14,6 +14,18 @@ use Rattle.uf_tree.specs.declared.nodes.Entry.{Entry}
 use Rattle.uf_plain.specs.Edits.{child}
 use Rattle.uf_mfs.specs.Steps.{stop_fault}
 use Rattle.uf_mfs.specs.Writes.{file_touches}
+use Rattle.uf_store.proofs.Among.{SavesAmong-refl, SavesAmong-trans}
+use Rattle.uf_mfs.proofs.Saving.{calm-of, saved-more, throughout-first, throughout-over}
+use Rattle.uf_mfs.proofs.SavingActs.{NoOtherHere, file-among, file-put, member-throughout, remade-among, remade-put}
+use Rattle.uf_store.specs.Among.{SavesAmong}
+use Rattle.uf_plain.specs.declared.change.Change.{Change as TheChange}
+use Rattle.uf_plain.specs.declared.change.Change.TheVariants.{Make, Put}
+use Rattle.uf_mfs.specs.declared.editing.Act.{Act}
+use Rattle.uf_mfs.specs.declared.editing.Act.TheVariants.{Change}
+use Rattle.uf_mfs.specs.Acts.{may_act}
+use Rattle.uf_mfs.specs.Answers.{Decides}
+use Rattle.uf_mfs.specs.Saving.{act_blocks}
+use Rattle.uf_mfs.proofs.SavingActs.{change-done, taken-here}
 use Rattle.uf_mfs.proofs.editing.edit_here.Goals as goal
 
 pub returns-in_err-new-in-Rewrite-clause-edits : goal.returns-in_err-new-in-Rewrite-clause-edits
@@ -184,3 +196,84 @@ returns-then-leaves-clause-edits g c =
     let a = g.S.Store.seen c.args.store.now in
     subst (EditsHere X N p a a folder name site.piece.now site.led c.args.found (Ok None)) (sym c.in-Rewrite.is)
     (λ t es meant member o. left-file X N p a.told c.in-Rewrite.what site.piece.now (site.led + 1) name es c.args.found o.plan.tree member (sym c.leaves.ensures ∙ c.if-leaves.true))
+
+pub returns-then-leaves-clause-no_other : goal.returns-then-leaves-clause-no_other
+returns-then-leaves-clause-no_other g c =
+    let X = g.S.X.BlockHash.block32 in let N = g.N.NameHash.name64 in let site = c.args.site.now in let p = site.profile in let folder = c.args.folder.now in let name = c.args.name.now in let piece = site.piece.now in let led = site.led in
+    let a = g.S.Store.seen c.args.store.now in
+    subst (NoOtherHere X N p a a folder name piece led c.args.found) (sym c.in-Rewrite.is) (λ t es meant member plan h. SavesAmong-refl X _ a.told)
+
+pub returns-in_err-new-in-Rewrite-clause-no_other : goal.returns-in_err-new-in-Rewrite-clause-no_other
+returns-in_err-new-in-Rewrite-clause-no_other g c =
+    let X = g.S.X.BlockHash.block32 in let N = g.N.NameHash.name64 in let site = c.args.site.now in let p = site.profile in let folder = c.args.folder.now in let name = c.args.name.now in let piece = site.piece.now in let led = site.led in
+    let a = g.S.Store.seen c.args.store.now in let d = g.S.Store.seen c.new_file.new.store in
+    subst (NoOtherHere X N p a d folder name piece led c.args.found) (sym c.in-Rewrite.is) (λ t es meant member plan h.
+    saved-more X _ _ a.told d.told (file-among X N p c.in-Rewrite.what piece (led + 1) name es)
+    (c.in_err-new-in-Rewrite.ensures.no_other N (child name es) member (member-throughout X N p a d name es h)))
+
+pub returns-in_ok-new-in-Rewrite-clause-no_other : goal.returns-in_ok-new-in-Rewrite-clause-no_other
+returns-in_ok-new-in-Rewrite-clause-no_other g c =
+    let X = g.S.X.BlockHash.block32 in let N = g.N.NameHash.name64 in let site = c.args.site.now in let p = site.profile in let folder = c.args.folder.now in let name = c.args.name.now in let piece = site.piece.now in let led = site.led in
+    let a = g.S.Store.seen c.args.store.now in let d = g.S.Store.seen c.put_in-in-Rewrite.new.store in
+    subst (NoOtherHere X N p a d folder name piece led c.args.found) (sym c.in-Rewrite.is) (λ t es meant member plan h.
+    let b = g.S.Store.seen c.new_file.new.store in
+    let first = c.in_ok-new-in-Rewrite.ensures.saves in let second = c.put_in-in-Rewrite.ensures.saves in let whole = throughout-first X N p first second _ h in
+    SavesAmong-trans X _ a.told b.told d.told
+    (saved-more X _ _ a.told b.told (file-among X N p c.in-Rewrite.what piece (led + 1) name es) (c.in_ok-new-in-Rewrite.ensures.no_other N (child name es) member (member-throughout X N p a b name es whole)))
+    (file-put X N p first second folder c.in_ok-new-in-Rewrite.new name es plan h c.put_in-in-Rewrite.ensures.no_other c.in-Rewrite.what piece (led + 1)
+    (c.in_ok-new-in-Rewrite.ensures.gives N folder name es member (throughout-over X N p first second [] folder es plan h))))
+
+pub returns-in_err-new-in-Remake-clause-no_other : goal.returns-in_err-new-in-Remake-clause-no_other
+returns-in_err-new-in-Remake-clause-no_other g c =
+    let X = g.S.X.BlockHash.block32 in let N = g.N.NameHash.name64 in let site = c.args.site.now in let p = site.profile in let folder = c.args.folder.now in let name = c.args.name.now in let piece = site.piece.now in let led = site.led in
+    let a = g.S.Store.seen c.args.store.now in let d = g.S.Store.seen c.change_member_meta.new.store in
+    subst (NoOtherHere X N p a d folder name piece led c.args.found) (sym c.in-Remake.is) (λ t es meant member plan h.
+    saved-more X _ _ a.told d.told (remade-among X N p c.in-Remake.what (led + 1) name es)
+    (c.in_err-new-in-Remake.ensures.no_other (child name es) member (member-throughout X N p a d name es h)))
+
+pub returns-in_default-clause-no_other : goal.returns-in_default-clause-no_other
+returns-in_default-clause-no_other g c =
+    let X = g.S.X.BlockHash.block32 in let N = g.N.NameHash.name64 in let site = c.args.site.now in let p = site.profile in let folder = c.args.folder.now in let name = c.args.name.now in let piece = site.piece.now in let led = site.led in
+    let a = g.S.Store.seen c.args.store.now in let d = g.S.Store.seen c.change_member_meta.new.store in
+    subst (NoOtherHere X N p a d folder name piece led c.args.found) (sym c.in-Remake.is) (λ t es meant member plan h.
+    saved-more X _ _ a.told d.told (remade-among X N p c.in-Remake.what (led + 1) name es)
+    (c.in_ok-new-in-Remake.ensures.no_other (child name es) member (member-throughout X N p a d name es h)))
+
+pub returns-in-Some-clause-no_other : goal.returns-in-Some-clause-no_other
+returns-in-Some-clause-no_other g c =
+    let X = g.S.X.BlockHash.block32 in let N = g.N.NameHash.name64 in let site = c.args.site.now in let p = site.profile in let folder = c.args.folder.now in let name = c.args.name.now in let piece = site.piece.now in let led = site.led in
+    let a = g.S.Store.seen c.args.store.now in let d = g.S.Store.seen c.put_in-in-Remake.new.store in
+    subst (NoOtherHere X N p a d folder name piece led c.args.found) (sym c.in-Remake.is) (λ t es meant member plan h.
+    let b = g.S.Store.seen c.change_member_meta.new.store in
+    let first = c.in_ok-new-in-Remake.ensures.saves folder.cid c.requires.required in let second = c.put_in-in-Remake.ensures.saves in let whole = throughout-first X N p first second _ h in
+    SavesAmong-trans X _ a.told b.told d.told
+    (saved-more X _ _ a.told b.told (remade-among X N p c.in-Remake.what (led + 1) name es) (c.in_ok-new-in-Remake.ensures.no_other (child name es) member (member-throughout X N p a b name es whole)))
+    (remade-put X N p first second folder c.in-Some.new name es plan h c.put_in-in-Remake.ensures.no_other c.in-Remake.what (led + 1)
+    (subst (λ (new : Option Entry). ChangesMember X N p a.told b.told c.in-Remake.what (led + 1) (child name es) (Ok new)) c.in-Some.is
+    (c.in_ok-new-in-Remake.ensures.gives (child name es) member (member-stays X N p a.told b.told name es whole.stays) (calm-of a b h.can first.cause)))))
+
+pub returns-in-Change-Make-clause-no_other : goal.returns-in-Change-Make-clause-no_other
+returns-in-Change-Make-clause-no_other g c =
+    let X = g.S.X.BlockHash.block32 in let N = g.N.NameHash.name64 in let site = c.args.site.now in let p = site.profile in let folder = c.args.folder.now in let name = c.args.name.now in let piece = site.piece.now in let led = site.led in
+    let a = g.S.Store.seen c.args.store.now in let d = g.S.Store.seen c.make_in.new.store in
+    let is : site.what ≡ Change Make = c.in-Change-Make.is ∙ ap (λ (x : TheChange). Change x) (rw c.in-Change-Make.is at c.in-Change-Make.field-0-is) in
+    subst (NoOtherHere X N p a d folder name piece led c.args.found) (sym is) (λ t es meant member plan h.
+    let may = subst (λ (act : Act). Decides (λ (a b : Unit {0}). Unit {0}) (may_act act (led + 1) (child name es)) (Ok tt)) is (c.in_ok-may.ensures X N a.told p (child name es) member) in
+    subst (λ w. SavesAmong X (act_blocks X N p (Change Make) (name ∷ []) es w) a.told d.told) (sym (change-done X N p Make t (led + 1) name es may))
+    (c.make_in.ensures.no_other es plan h))
+
+pub returns-in-Change-Put-clause-no_other : goal.returns-in-Change-Put-clause-no_other
+returns-in-Change-Put-clause-no_other g c =
+    let X = g.S.X.BlockHash.block32 in let N = g.N.NameHash.name64 in let site = c.args.site.now in let p = site.profile in let folder = c.args.folder.now in let name = c.args.name.now in let piece = site.piece.now in let led = site.led in
+    let a = g.S.Store.seen c.args.store.now in let d = g.S.Store.seen c.put_in.new.store in
+    let is : site.what ≡ Change (Put c.in-Change-Put.new) = c.in-Change-Put.is ∙ ap (λ (x : TheChange). Change x) (rw c.in-Change-Put.is at c.in-Change-Put.field-0-is) in
+    subst (NoOtherHere X N p a d folder name piece led c.args.found) (sym is) (λ t es meant member plan h.
+    let may = subst (λ (act : Act). Decides (λ (a b : Unit {0}). Unit {0}) (may_act act (led + 1) (child name es)) (Ok tt)) is (c.in_ok-may.ensures X N a.told p (child name es) member) in
+    subst (λ w. SavesAmong X (act_blocks X N p (Change (Put c.in-Change-Put.new)) (name ∷ []) es w) a.told d.told) (sym (change-done X N p (Put c.in-Change-Put.new) t (led + 1) name es may))
+    (c.put_in.ensures.no_other t meant es plan h))
+
+pub returns-in-Change-Remove-clause-no_other : goal.returns-in-Change-Remove-clause-no_other
+returns-in-Change-Remove-clause-no_other g c =
+    let X = g.S.X.BlockHash.block32 in let N = g.N.NameHash.name64 in let site = c.args.site.now in let p = site.profile in let a = g.S.Store.seen c.args.store.now in
+    taken-here X N p a (g.S.Store.seen c.take_out.new.store) c.args.folder.now c.args.name.now site.piece.now site.led c.args.found site.what c.in-Change-Remove.field-0 c.in-Change-Remove.is
+    (rw c.in-Change-Remove.is at c.in-Change-Remove.field-0-is) (λ es member. c.in_ok-may.ensures X N a.told p (child c.args.name.now es) member) c.take_out.ensures.no_other

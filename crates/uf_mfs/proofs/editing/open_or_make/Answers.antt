@@ -14,6 +14,15 @@ use Rattle.uf_mfs.proofs.Starting.{empty-after}
 use Rattle.std.specs.Prelude.{IfSome}
 use Rattle.uf_mfs.specs.Bad.{IsRequired}
 use Rattle.uf_mfs.proofs.Judging.{made-required}
+use Rattle.std.proofs.Common.{sym}
+use Rattle.uf_store.specs.Among.{SavesAmong}
+use Rattle.uf_store.proofs.Among.{SavesAmong-same, SavesAmong-trans}
+use Rattle.uf_tree.specs.Metas.{none}
+use Rattle.uf_tree.specs.Tree.{Nothing}
+use Rattle.uf_mfs.specs.Saving.{opened_blocks}
+use Rattle.uf_mfs.proofs.Filling.{free}
+use Rattle.uf_mfs.proofs.Moving.{own-dir}
+use Rattle.uf_mfs.proofs.Saving.{calm-of, saved-more, throughout-agreed}
 use Rattle.uf_mfs.proofs.editing.open_or_make.Goals as goal
 
 pub returns-in_ok-new-in-None-clause-opens : goal.returns-in_ok-new-in-None-clause-opens
@@ -55,3 +64,36 @@ pub returns-in-Some-Folder-clause-required : goal.returns-in-Some-Folder-clause-
 returns-in-Some-Folder-clause-required g c =
     let X = g.S.X.BlockHash.block32 in let folder = c.args.folder.now.cid in
     rw c.in-Some-Folder.entry-is (subst (λ o. IfSome o (IsRequired X folder)) (c.in-Some-Folder.is ∙ ap Some c.in-Some-Folder.field-0-is) c.in_ok-member.ensures.required)
+
+pub returns-in_err-member-clause-no_other : goal.returns-in_err-member-clause-no_other
+returns-in_err-member-clause-no_other g c =
+    λ p es plan h. let X = g.S.X.BlockHash.block32 in let N = g.N.NameHash.name64 in
+    SavesAmong-same X _ _ _ c.in_err-member.ensures.reads.told
+
+pub returns-in_err-new-in-None-clause-no_other : goal.returns-in_err-new-in-None-clause-no_other
+returns-in_err-new-in-None-clause-no_other g c =
+    λ p es plan h. let X = g.S.X.BlockHash.block32 in let N = g.N.NameHash.name64 in let name = c.args.name.now in
+    let a = g.S.Store.seen c.args.store.now in let b = g.S.Store.seen c.member.new.store in let e = g.S.Store.seen c.empty.new.store in
+    let reads = c.in_ok-member.ensures.reads in
+    let member = subst (λ x. IsAgreedMember X N a.told p (child name es) x) c.in-None.is (c.in_ok-member.ensures.member p es (throughout-agreed X N p a e [] c.args.folder.now es plan h) (calm-of a b h.can reads.cause).faults) in
+    subst (λ (o : Option Tree). SavesAmong X (opened_blocks X N p o) a.told e.told) (sym (free X N p a.told (child name es) member))
+    (saved-more X _ _ a.told e.told (own-dir X N p (Nothing none)) (SavesAmong-trans X _ a.told b.told e.told (SavesAmong-same X _ a.told b.told reads.told) (c.in_err-new-in-None.ensures.no_other N p)))
+
+pub returns-in_ok-new-in-None-clause-no_other : goal.returns-in_ok-new-in-None-clause-no_other
+returns-in_ok-new-in-None-clause-no_other g c =
+    λ p es plan h. let X = g.S.X.BlockHash.block32 in let N = g.N.NameHash.name64 in let name = c.args.name.now in
+    let a = g.S.Store.seen c.args.store.now in let b = g.S.Store.seen c.member.new.store in let e = g.S.Store.seen c.empty.new.store in
+    let reads = c.in_ok-member.ensures.reads in
+    let member = subst (λ x. IsAgreedMember X N a.told p (child name es) x) c.in-None.is (c.in_ok-member.ensures.member p es (throughout-agreed X N p a e [] c.args.folder.now es plan h) (calm-of a b h.can reads.cause).faults) in
+    subst (λ (o : Option Tree). SavesAmong X (opened_blocks X N p o) a.told e.told) (sym (free X N p a.told (child name es) member))
+    (saved-more X _ _ a.told e.told (own-dir X N p (Nothing none)) (SavesAmong-trans X _ a.told b.told e.told (SavesAmong-same X _ a.told b.told reads.told) (c.in_ok-new-in-None.ensures.no_other N p)))
+
+pub returns-in-Some-File-clause-no_other : goal.returns-in-Some-File-clause-no_other
+returns-in-Some-File-clause-no_other g c =
+    λ p es plan h. let X = g.S.X.BlockHash.block32 in let N = g.N.NameHash.name64 in
+    SavesAmong-same X _ _ _ c.in_ok-member.ensures.reads.told
+
+pub returns-in-Some-Folder-clause-no_other : goal.returns-in-Some-Folder-clause-no_other
+returns-in-Some-Folder-clause-no_other g c =
+    λ p es plan h. let X = g.S.X.BlockHash.block32 in let N = g.N.NameHash.name64 in
+    SavesAmong-same X _ _ _ c.in_ok-member.ensures.reads.told

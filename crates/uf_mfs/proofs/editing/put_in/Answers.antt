@@ -2,6 +2,7 @@ use Rattle.std.proofs.lemmas.Result.{err_from_is_err_and}
 use Rattle.std.proofs.Common.{Some}
 use Rattle.uf_mfs.proofs.Answering.{stop-shows}
 use Rattle.uf_mfs.proofs.Moving.{put-bound, put-done, put-err, put-loses}
+use Rattle.uf_mfs.proofs.Saving.{put-saves}
 use Rattle.uf_mfs.proofs.editing.put_in.Goals as goal
 
 pub returns-in_err-new-clause-edits : goal.returns-in_err-new-clause-edits
@@ -39,3 +40,13 @@ returns-in_err-new-clause-missing g c = λ es o.
     rw out.1 (put-loses g.S.X.BlockHash.block32 g.N.NameHash.name64 c.args.profile.now (record { size = g.met.S.X.BlockHash.size; are_bytes = g.met.S.X.BlockHash.are_bytes }) g.met.N.NameHash.fits
     _ _ c.args.folder.now es c.args.entry.now c.args.name.now c.in_err-new.field-0.0 out.0 out.2 o.plan o.stays
     (λ m l planned agrees. c.in_err-new.ensures.value m l planned agrees o.calm.faults o.calm.clashes))
+
+pub returns-in_err-new-clause-no_other : goal.returns-in_err-new-clause-no_other
+returns-in_err-new-clause-no_other g c = λ t new es plan h.
+    put-saves g.S.X.BlockHash.block32 g.N.NameHash.name64 c.args.profile.now (record { size = g.met.S.X.BlockHash.size; are_bytes = g.met.S.X.BlockHash.are_bytes }) g.met.N.NameHash.fits
+    _ _ c.args.folder.now es c.args.entry.now c.args.name.now t plan new h.stays.first c.in_err-new.ensures.no_other
+
+pub returns-clause-no_other : goal.returns-clause-no_other
+returns-clause-no_other g c = λ t new es plan h.
+    put-saves g.S.X.BlockHash.block32 g.N.NameHash.name64 c.args.profile.now (record { size = g.met.S.X.BlockHash.size; are_bytes = g.met.S.X.BlockHash.are_bytes }) g.met.N.NameHash.fits
+    _ _ c.args.folder.now es c.args.entry.now c.args.name.now t plan new h.stays.first c.in_ok-new.ensures.no_other

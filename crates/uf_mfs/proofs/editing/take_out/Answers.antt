@@ -2,6 +2,7 @@ use Rattle.std.proofs.Common.{ap, refl, Ok, Err, None, Some}
 use Rattle.std.proofs.lemmas.Result.{err_from_is_err_and}
 use Rattle.uf_mfs.proofs.Answering.{weighed-shows}
 use Rattle.uf_mfs.proofs.Moving.{take-bound, take-done, take-err, take-says, taken-not}
+use Rattle.uf_mfs.proofs.Saving.{take-saves}
 use Rattle.uf_mfs.proofs.editing.take_out.Goals as goal
 
 pub returns-in_err-taken-clause-edits : goal.returns-in_err-taken-clause-edits
@@ -52,3 +53,18 @@ returns-in-Some-clause-touches g c = λ es o.
     let a = (g.S.Store.seen c.args.store.now).told in let b = (g.S.Store.seen c.remove.new.store).told in
     take-bound g.S.X.BlockHash.block32 g.N.NameHash.name64 c.args.profile.now (record { size = g.met.S.X.BlockHash.size; are_bytes = g.met.S.X.BlockHash.are_bytes }) g.met.N.NameHash.fits a b c.args.folder.now es c.args.name.now
     c.args.touches.now c.remove.new.touches o.plan o.stays (λ m l planned stays. c.in_ok-taken.ensures.touches m l planned stays o.calm.faults o.calm.clashes)
+
+pub returns-in_err-taken-clause-no_other : goal.returns-in_err-taken-clause-no_other
+returns-in_err-taken-clause-no_other g c = λ es plan h.
+    take-saves g.S.X.BlockHash.block32 g.N.NameHash.name64 c.args.profile.now (record { size = g.met.S.X.BlockHash.size; are_bytes = g.met.S.X.BlockHash.are_bytes }) g.met.N.NameHash.fits
+    (g.S.Store.seen c.args.store.now) (g.S.Store.seen c.remove.new.store) c.args.folder.now es c.args.name.now plan h c.in_err-taken.ensures.no_other
+
+pub returns-in-None-clause-no_other : goal.returns-in-None-clause-no_other
+returns-in-None-clause-no_other g c = λ es plan h.
+    take-saves g.S.X.BlockHash.block32 g.N.NameHash.name64 c.args.profile.now (record { size = g.met.S.X.BlockHash.size; are_bytes = g.met.S.X.BlockHash.are_bytes }) g.met.N.NameHash.fits
+    (g.S.Store.seen c.args.store.now) (g.S.Store.seen c.remove.new.store) c.args.folder.now es c.args.name.now plan h c.in_ok-taken.ensures.no_other
+
+pub returns-in-Some-clause-no_other : goal.returns-in-Some-clause-no_other
+returns-in-Some-clause-no_other g c = λ es plan h.
+    take-saves g.S.X.BlockHash.block32 g.N.NameHash.name64 c.args.profile.now (record { size = g.met.S.X.BlockHash.size; are_bytes = g.met.S.X.BlockHash.are_bytes }) g.met.N.NameHash.fits
+    (g.S.Store.seen c.args.store.now) (g.S.Store.seen c.remove.new.store) c.args.folder.now es c.args.name.now plan h c.in_ok-taken.ensures.no_other

@@ -19,6 +19,14 @@ use Rattle.uf_mfs.proofs.Folders.{over-first, read-over}
 use Rattle.uf_mfs.proofs.Spots.{front-last, tells-saves, tree-rises}
 use Rattle.uf_mfs.specs.Bad.{IsBadInTree}
 use Rattle.uf_mfs.proofs.Judging.{tree-more}
+use Rattle.std.specs.Prelude.{◌||◌}
+use Rattle.uf_store.specs.Among.{SavesAmong}
+use Rattle.uf_store.proofs.Among.{SavesAmong-refl, SavesAmong-same, SavesAmong-trans}
+use Rattle.uf_plain.specs.Edits.{is_folder_at}
+use Rattle.uf_plain.specs.Moves.{name_of}
+use Rattle.uf_mfs.specs.Saving.{moved_blocks}
+use Rattle.uf_mfs.proofs.Saving.{calm-of, throughout-agreed, throughout-since}
+use Rattle.uf_mfs.proofs.SavingMoves.{landed}
 use Rattle.uf_mfs.proofs.placing.moved_root.Goals as goal
 
 pub returns-in-Err-clause-moves : goal.returns-in-Err-clause-moves
@@ -98,3 +106,27 @@ returns-in_err-target-in-Ok-clause-saves g c =
       saves = saves-saves (reads-saves c.in-Ok.ensures.reads) (reads-saves (reads-by (IsBadInTree X N (Some p) c.args.tree.now.root.cid) (tree-more X N p c.args.tree.now.root.cid) found.reads));
       in_tree = found.in_tree;
     })
+
+pub returns-in_default-clause-no_other : goal.returns-in_default-clause-no_other
+returns-in_default-clause-no_other g c =
+    λ es plan h. SavesAmong-refl g.S.X.BlockHash.block32 _ (g.S.Store.seen c.args.store.now).told
+
+pub returns-in-Err-clause-no_other : goal.returns-in-Err-clause-no_other
+returns-in-Err-clause-no_other g c =
+    λ es plan h. SavesAmong-same g.S.X.BlockHash.block32 _ _ _ c.in-Err.ensures.reads.told
+
+pub returns-in_err-target-in-Ok-clause-no_other : goal.returns-in_err-target-in-Ok-clause-no_other
+returns-in_err-target-in-Ok-clause-no_other g c =
+    λ es plan h. SavesAmong-same g.S.X.BlockHash.block32 _ _ _ (c.in_err-target-in-Ok.ensures.reads.reads.told ∙ c.in-Ok.ensures.reads.told)
+
+pub returns-in_ok-target-in-Ok-clause-no_other : goal.returns-in_ok-target-in-Ok-clause-no_other
+returns-in_ok-target-in-Ok-clause-no_other g c =
+    λ es plan h.
+    let X = g.S.X.BlockHash.block32 in let N = g.N.NameHash.name64 in let source = c.args.source.now in let dest = c.args.dest.now in let root = c.args.tree.now.root in let p = c.args.tree.now.profile in
+    let a = g.S.Store.seen c.args.store.now in let d = g.S.Store.seen c.target_of.new.store in let e = g.S.Store.seen c.moved_to.new.store in
+    let looked = c.in-Ok.ensures.reads in let targeted = c.in_ok-target-in-Ok.ensures.reads in let reads = reads-reads looked targeted.reads in
+    let m = move-found X N p source dest es root c.in-Ok.thing c.in_ok-target-in-Ok.target c.name-item.result looked targeted.reads c.in-len1-up.len_at_least c.name-item.is (throughout-agreed X N p a e [] root es plan h) (calm-of a d h.can reads.cause).faults
+    (λ s stood. c.in-Ok.ensures.looks p (Dir es) (s, tt) stood) (λ s stood. c.in_ok-target-in-Ok.ensures.found p es s stood) in
+    subst (λ w. SavesAmong X (moved_blocks X N p source es w) a.told e.told) (sym (carried-on X N p source dest es m.t m.found c.in-len1-up.len_at_least m.there m.at_found))
+    (SavesAmong-trans X _ a.told d.told e.told (SavesAmong-same X _ a.told d.told reads.told)
+    (c.moved_to.ensures.no_other m.t m.found m.is_found es (landed (dest.into || is_folder_at (at 0 dest.names (Dir es))) dest.names dest.names (name_of source) es m.found m.at_found) plan (throughout-since X N p a d e _ reads.told reads.cause h) m.there m.is_thing))

@@ -17,6 +17,13 @@ use Rattle.uf_mfs.proofs.Spots.{gives-stop, meets-gives, tells-gives, tells-save
 use Rattle.std.proofs.Common.{Some}
 use Rattle.uf_mfs.specs.Bad.{IsBadInTree}
 use Rattle.uf_mfs.proofs.Judging.{bad-below}
+use Rattle.uf_store.specs.Among.{SavesAmong}
+use Rattle.uf_store.proofs.Among.{SavesAmong-trans}
+use Rattle.uf_mfs.specs.Saving.{next_blocks, removed_blocks, saved_for, taken_blocks}
+use Rattle.uf_mfs.proofs.After.{back-among, front-among}
+use Rattle.uf_mfs.proofs.Removing.{removes-at}
+use Rattle.uf_mfs.proofs.Saving.{saved-more, throughout-first}
+use Rattle.uf_mfs.proofs.SavingMoves.{shift-saves}
 use Rattle.uf_mfs.proofs.placing.shifted_root.Goals as goal
 
 pub returns-in-Err-clause-moves : goal.returns-in-Err-clause-moves
@@ -99,3 +106,39 @@ returns-in-Err-clause-touches g c = λ t spot same es o there thing.
     let X = g.S.X.BlockHash.block32 in let N = g.N.NameHash.name64 in let p = c.args.tree.now.profile in let source = c.args.source.now in
     let first = taken-crossed X N p source es c.args.touches.now c.edited_root.new.touches (c.in-Err.ensures.touches (Dir (Nothing none)) (λ n. n) tt tt es o) in
     omega (arith, first)
+
+pub returns-in-Err-clause-no_other : goal.returns-in-Err-clause-no_other
+returns-in-Err-clause-no_other g c =
+    λ t spot same es in_it plan h there thing.
+    let X = g.S.X.BlockHash.block32 in let N = g.N.NameHash.name64 in let p = c.args.tree.now.profile in let source = c.args.source.now in let root = c.args.tree.now.root in
+    let a = g.S.Store.seen c.args.store.now in let b = g.S.Store.seen c.edited_root.new.store in
+    saved-more X _ _ a.told b.told (front-among (removed_blocks X N p true source es) (next_blocks X N p (shifted source spot t es)))
+    (subst (λ w. SavesAmong X (saved_for X N p (taken_blocks X N p source es) w) a.told b.told) (removes-at p true source es) (c.in-Err.ensures.no_other (Dir (Nothing none)) tt es plan h))
+
+pub returns-in-Err-put_root-clause-no_other : goal.returns-in-Err-put_root-clause-no_other
+returns-in-Err-put_root-clause-no_other g c =
+    λ t spot same es in_it plan h there thing.
+    let X = g.S.X.BlockHash.block32 in let N = g.N.NameHash.name64 in let p = c.args.tree.now.profile in let source = c.args.source.now in let root = c.args.tree.now.root in
+    let a = g.S.Store.seen c.args.store.now in let b = g.S.Store.seen c.edited_root.new.store in let d = g.S.Store.seen c.put_root.new.store in
+    let before = c.in-Ok.ensures.saves in let after = c.in-Err-put_root.ensures.saves in
+    SavesAmong-trans X _ a.told b.told d.told
+    (saved-more X _ _ a.told b.told (front-among (removed_blocks X N p true source es) (next_blocks X N p (shifted source spot t es)))
+    (subst (λ w. SavesAmong X (saved_for X N p (taken_blocks X N p source es) w) a.told b.told) (removes-at p true source es) (c.in-Ok.ensures.no_other (Dir (Nothing none)) tt es plan (throughout-first X N p before after _ h))))
+    (saved-more X _ _ b.told d.told (back-among (removed_blocks X N p true source es) (next_blocks X N p (shifted source spot t es)))
+    (shift-saves X N p before after root c.in-Ok.left source c.args.names.now spot t c.args.thing es plan h there (thing-plan X N p a.told t c.args.thing thing) same
+    (removed-gives X N (record { size = g.met.S.X.BlockHash.size; are_bytes = g.met.S.X.BlockHash.are_bytes }) g.met.N.NameHash.fits p c.requires.mfs a b root source (Ok c.in-Ok.left) (c.in-Ok.ensures.edits (Dir (Nothing none)) tt))
+    (λ u put. c.in-Err-put_root.ensures.no_other u (subst (λ e. IsPlanOf X N p e u) (sym c.entry_of-entry.ensures) put))))
+
+pub returns-in-Ok-put_root-clause-no_other : goal.returns-in-Ok-put_root-clause-no_other
+returns-in-Ok-put_root-clause-no_other g c =
+    λ t spot same es in_it plan h there thing.
+    let X = g.S.X.BlockHash.block32 in let N = g.N.NameHash.name64 in let p = c.args.tree.now.profile in let source = c.args.source.now in let root = c.args.tree.now.root in
+    let a = g.S.Store.seen c.args.store.now in let b = g.S.Store.seen c.edited_root.new.store in let d = g.S.Store.seen c.put_root.new.store in
+    let before = c.in-Ok.ensures.saves in let after = c.in-Ok-put_root.ensures.saves in
+    SavesAmong-trans X _ a.told b.told d.told
+    (saved-more X _ _ a.told b.told (front-among (removed_blocks X N p true source es) (next_blocks X N p (shifted source spot t es)))
+    (subst (λ w. SavesAmong X (saved_for X N p (taken_blocks X N p source es) w) a.told b.told) (removes-at p true source es) (c.in-Ok.ensures.no_other (Dir (Nothing none)) tt es plan (throughout-first X N p before after _ h))))
+    (saved-more X _ _ b.told d.told (back-among (removed_blocks X N p true source es) (next_blocks X N p (shifted source spot t es)))
+    (shift-saves X N p before after root c.in-Ok.left source c.args.names.now spot t c.args.thing es plan h there (thing-plan X N p a.told t c.args.thing thing) same
+    (removed-gives X N (record { size = g.met.S.X.BlockHash.size; are_bytes = g.met.S.X.BlockHash.are_bytes }) g.met.N.NameHash.fits p c.requires.mfs a b root source (Ok c.in-Ok.left) (c.in-Ok.ensures.edits (Dir (Nothing none)) tt))
+    (λ u put. c.in-Ok-put_root.ensures.no_other u (subst (λ e. IsPlanOf X N p e u) (sym c.entry_of-entry.ensures) put))))

@@ -16,6 +16,9 @@ use Rattle.uf_mfs.proofs.Filling.{stood-before}
 use Rattle.uf_mfs.proofs.Needed.{root-of-among}
 use Rattle.uf_mfs.proofs.Remade.{remade-same, with-own}
 use Rattle.uf_mfs.proofs.Renewing.{lost-remade, stat-meta, stat-saves, thing-itself, unseen-one}
+use Rattle.uf_store.specs.Among.{SavesAmong}
+use Rattle.uf_store.proofs.Among.{SavesAmong-same, SavesAmong-trans}
+use Rattle.uf_mfs.proofs.Saving.{calm-of, throughout-since}
 use Rattle.uf_mfs.proofs.remaking.change_meta.Goals as goal
 
 pub returns-in_err-stat-clause-gives : goal.returns-in_err-stat-clause-gives
@@ -107,3 +110,35 @@ returns-then-eq-clause-touches g c = (let one = unseen-one c.args.thing in let t
 
 pub returns-in_err-stat-clause-touches : goal.returns-in_err-stat-clause-touches
 returns-in_err-stat-clause-touches g c = (let one = unseen-one c.args.thing in let t1 = c.in_err-stat.ensures.touches in omega (arith, one, t1))
+
+pub returns-in_err-stat-clause-no_other : goal.returns-in_err-stat-clause-no_other
+returns-in_err-stat-clause-no_other g c =
+    λ t thing h. SavesAmong-same g.S.X.BlockHash.block32 _ _ _ c.in_err-stat.ensures.reads.told
+
+pub returns-then-eq-clause-no_other : goal.returns-then-eq-clause-no_other
+returns-then-eq-clause-no_other g c =
+    λ t thing h. SavesAmong-same g.S.X.BlockHash.block32 _ _ _ c.in_ok-stat.ensures.reads.told
+
+pub returns-in_err-new-clause-no_other : goal.returns-in_err-new-clause-no_other
+returns-in_err-new-clause-no_other g c =
+    λ t thing h.
+    let X = g.S.X.BlockHash.block32 in let N = g.N.NameHash.name64 in let p = c.args.p.now in let stat = c.in_ok-stat.stat in let meta = c.meta_after-meta.result in let what = c.args.what in
+    let a = g.S.Store.seen c.args.store.now in let b = g.S.Store.seen c.stat_of.new.store in let d = g.S.Store.seen c.set_thing_meta.new.store in
+    let reads = c.in_ok-stat.ensures.reads in
+    let f = stat-meta X N p a.told t c.args.thing stat thing (c.in_ok-stat.ensures.stat p t thing (calm-of a b h.can reads.cause).faults) in
+    let is : meta ≡ meta_after what (meta_of t) = c.meta_after-meta.ensures.after ∙ ap (meta_after what) (c.good.ensures.same f.1 ∙ f.0) in
+    subst (λ (m : Meta). SavesAmong X (blocks X N p (with_meta m t)) a.told d.told) is
+    (SavesAmong-trans X _ a.told b.told d.told (SavesAmong-same X _ a.told b.told reads.told)
+    (c.in_err-new.ensures.no_other t (subst (λ told. IsAgreedThing X N told p t c.args.thing) (sym reads.told) thing) (throughout-since X N p a b d _ reads.told reads.cause h)))
+
+pub returns-clause-no_other : goal.returns-clause-no_other
+returns-clause-no_other g c =
+    λ t thing h.
+    let X = g.S.X.BlockHash.block32 in let N = g.N.NameHash.name64 in let p = c.args.p.now in let stat = c.in_ok-stat.stat in let meta = c.meta_after-meta.result in let what = c.args.what in
+    let a = g.S.Store.seen c.args.store.now in let b = g.S.Store.seen c.stat_of.new.store in let d = g.S.Store.seen c.set_thing_meta.new.store in
+    let reads = c.in_ok-stat.ensures.reads in
+    let f = stat-meta X N p a.told t c.args.thing stat thing (c.in_ok-stat.ensures.stat p t thing (calm-of a b h.can reads.cause).faults) in
+    let is : meta ≡ meta_after what (meta_of t) = c.meta_after-meta.ensures.after ∙ ap (meta_after what) (c.good.ensures.same f.1 ∙ f.0) in
+    subst (λ (m : Meta). SavesAmong X (blocks X N p (with_meta m t)) a.told d.told) is
+    (SavesAmong-trans X _ a.told b.told d.told (SavesAmong-same X _ a.told b.told reads.told)
+    (c.in_ok-new.ensures.no_other t (subst (λ told. IsAgreedThing X N told p t c.args.thing) (sym reads.told) thing) (throughout-since X N p a b d _ reads.told reads.cause h)))

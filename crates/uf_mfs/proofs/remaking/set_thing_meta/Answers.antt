@@ -3,6 +3,7 @@ use Rattle.std.proofs.lemmas.Result.{err_from_is_err_and}
 use Rattle.uf_mfs.specs.declared.fault.Stop.TheVariants as stop
 use Rattle.uf_mfs.specs.Bad.{IsRequired}
 use Rattle.uf_mfs.proofs.Renewing.{file-made, file-renewed, file-stopped, folder-made, folder-renewed, folder-saves, folder-stopped}
+use Rattle.uf_mfs.proofs.SavingFiles.{file-meta, folder-meta}
 use Rattle.uf_mfs.proofs.remaking.set_thing_meta.Goals as goal
 
 pub returns-in_err-new-in-File-clause-gives : goal.returns-in_err-new-in-File-clause-gives
@@ -43,3 +44,29 @@ returns-in_ok-new-in-Folder-clause-gives g c = λ t thing stays calm.
     folder-renewed X N p a.told b.told k t c.args.thing e _ (Ok new) c.in-Folder.is thing stays
     (λ es plan stays. folder-made X N p (record { size = g.met.S.X.BlockHash.size; are_bytes = g.met.S.X.BlockHash.are_bytes }) g.met.N.NameHash.fits a.told b.told e k es plan stays new c.requires.meta c.in_ok-new-in-Folder.ensures.good
     (λ M m l is agrees. c.in_ok-new-in-Folder.ensures.value M m l is agrees calm.faults calm.clashes) c.in_ok-new-in-Folder.ensures.after)
+
+pub returns-in_err-new-in-File-clause-no_other : goal.returns-in_err-new-in-File-clause-no_other
+returns-in_err-new-in-File-clause-no_other g c =
+    λ t thing h.
+    let X = g.S.X.BlockHash.block32 in let N = g.N.NameHash.name64 in
+    file-meta X N c.args.p.now (g.S.Store.seen c.args.store.now) (g.S.Store.seen c.set_meta.new.store) c.args.meta.now t c.args.thing c.in-File.entry _ c.in-File.is thing h c.in_err-new-in-File.ensures.no_other
+
+pub returns-in_ok-new-in-File-clause-no_other : goal.returns-in_ok-new-in-File-clause-no_other
+returns-in_ok-new-in-File-clause-no_other g c =
+    λ t thing h.
+    let X = g.S.X.BlockHash.block32 in let N = g.N.NameHash.name64 in
+    file-meta X N c.args.p.now (g.S.Store.seen c.args.store.now) (g.S.Store.seen c.set_meta.new.store) c.args.meta.now t c.args.thing c.in-File.entry _ c.in-File.is thing h c.in_ok-new-in-File.ensures.no_other
+
+pub returns-in_err-new-in-Folder-clause-no_other : goal.returns-in_err-new-in-Folder-clause-no_other
+returns-in_err-new-in-Folder-clause-no_other g c =
+    λ t thing h.
+    let X = g.S.X.BlockHash.block32 in let N = g.N.NameHash.name64 in
+    folder-meta X N c.args.p.now (record { size = g.met.S.X.BlockHash.size; are_bytes = g.met.S.X.BlockHash.are_bytes }) g.met.N.NameHash.fits
+    (g.S.Store.seen c.args.store.now) (g.S.Store.seen c.set_meta-in-Folder.new.store) c.args.meta.now t c.args.thing c.in-Folder.entry _ c.in-Folder.is thing h c.in_err-new-in-Folder.ensures.no_other
+
+pub returns-in_ok-new-in-Folder-clause-no_other : goal.returns-in_ok-new-in-Folder-clause-no_other
+returns-in_ok-new-in-Folder-clause-no_other g c =
+    λ t thing h.
+    let X = g.S.X.BlockHash.block32 in let N = g.N.NameHash.name64 in
+    folder-meta X N c.args.p.now (record { size = g.met.S.X.BlockHash.size; are_bytes = g.met.S.X.BlockHash.are_bytes }) g.met.N.NameHash.fits
+    (g.S.Store.seen c.args.store.now) (g.S.Store.seen c.set_meta-in-Folder.new.store) c.args.meta.now t c.args.thing c.in-Folder.entry _ c.in-Folder.is thing h c.in_ok-new-in-Folder.ensures.no_other

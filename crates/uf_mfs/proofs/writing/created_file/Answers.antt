@@ -6,6 +6,8 @@ use Rattle.uf_fileedit.proofs.Edited.{more-rows}
 use Rattle.uf_mfs.specs.Reading.{rows_with}
 use Rattle.uf_mfs.proofs.Reaching.{heights-with}
 use Rattle.uf_mfs.proofs.Rewriting.{created-file, created-touches, stepped-counts, stepped-saves}
+use Rattle.uf_cid.specs.declared.cid.Codec.TheVariants.{Raw}
+use Rattle.uf_mfs.proofs.SavingFiles.{created-saves}
 use Rattle.uf_mfs.proofs.writing.created_file.Goals as goal
 
 pub returns-clause-gives : goal.returns-clause-gives
@@ -30,3 +32,10 @@ pub returns-clause-saves : goal.returns-clause-saves
 returns-clause-saves g c = λ root.
     let X = g.S.X.BlockHash.block32 in let a = g.S.Store.seen c.args.store.now in let b = g.S.Store.seen c.create.new.store in
     stepped-saves X (IsBadEdited X c.args.site.now.profile b.told root) c.create.result c.as_step.result a b c.as_step.ensures (c.create.ensures.cause root) c.create.ensures.good c.create.ensures.saves
+
+pub returns-clause-no_other : goal.returns-clause-no_other
+returns-clause-no_other g c =
+    λ N.
+    let X = g.S.X.BlockHash.block32 in let site = c.args.site.now in
+    created-saves X N site.profile _ (g.S.Store.seen c.args.store.now) (g.S.Store.seen c.create.new.store) c.args.meta.now c.args.how.offset site.piece.now c.create.result c.create.ensures.long
+    (c.create.ensures.cause (record { codec = Raw; digest = [] })) c.create.ensures.no_other

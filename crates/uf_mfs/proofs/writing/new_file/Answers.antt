@@ -11,6 +11,8 @@ use Rattle.uf_tree.specs.Tree.{Dir}
 use Rattle.uf_tree.specs.TreePlan.{blocks}
 use Rattle.uf_mfs.proofs.Folders.{over-first}
 use Rattle.uf_mfs.proofs.Rewriting.{in-some, kept-good, new-created, new-created-touches, new-made, new-refused, new-touches, no-saves, start-there}
+use Rattle.uf_store.proofs.Among.{SavesAmong-refl}
+use Rattle.uf_mfs.proofs.SavingFiles.{empty-saves, member-good, there-saves}
 use Rattle.uf_mfs.proofs.writing.new_file.Goals as goal
 
 pub returns-in_err-start-clause-gives : goal.returns-in_err-start-clause-gives
@@ -74,3 +76,24 @@ returns-in_err-start-clause-saves g c =
     let none = no-saves g.S.X.BlockHash.block32 (λ name. 0) c.args.site.now.profile (g.S.Store.seen c.args.store.now) in
     let out = err_from_is_err_and c.from_residual.result c.from_residual.ensures.1 in
     rw (out.1, out.2) (record { cause = none.cause; good = none.good; saves = none.saves })
+
+pub returns-in_err-start-clause-no_other : goal.returns-in_err-start-clause-no_other
+returns-in_err-start-clause-no_other g c =
+    λ N o member h. SavesAmong-refl g.S.X.BlockHash.block32 _ (g.S.Store.seen c.args.store.now).told
+
+pub returns-in-There-clause-no_other : goal.returns-in-There-clause-no_other
+returns-in-There-clause-no_other g c =
+    λ N o member h.
+    let X = g.S.X.BlockHash.block32 in let p = c.args.site.now.profile in let site = c.args.site.now in
+    let a = g.S.Store.seen c.args.store.now in let led = site.led + 1 in let b = g.S.Store.seen c.rewritten_file.new.store in
+    there-saves X N p a.told a b c.args.what site.piece.now led o c.in-There.old (subst (λ (start : Start). Decides (λ bytes start. IsStart X N a.told p c.args.what o bytes start) (begun c.args.what led o) (Ok start)) c.in-There.is (c.in_ok-start.ensures X N a.told p o member))
+    h (c.rewritten_file.ensures.no_other N)
+
+pub returns-in-Empty-clause-no_other : goal.returns-in-Empty-clause-no_other
+returns-in-Empty-clause-no_other g c =
+    λ N o member h.
+    let X = g.S.X.BlockHash.block32 in let p = c.args.site.now.profile in let site = c.args.site.now in
+    let a = g.S.Store.seen c.args.store.now in let led = site.led + 1 in let b = g.S.Store.seen c.created_file.new.store in
+    empty-saves X N p a.told a.told b.told c.in-Empty.meta c.good.result c.in-Empty.how c.args.what site.piece.now led o (member-good X N p a.told o c.args.found member)
+    (subst (λ (start : Start). Decides (λ bytes start. IsStart X N a.told p c.args.what o bytes start) (begun c.args.what led o) (Ok start)) c.in-Empty.is (c.in_ok-start.ensures X N a.told p o member))
+    c.good.ensures.same (c.created_file.ensures.no_other N)

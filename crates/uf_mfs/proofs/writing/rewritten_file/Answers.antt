@@ -10,6 +10,9 @@ use Rattle.uf_mfs.specs.Reading.{rows_with}
 use Rattle.uf_mfs.specs.Writes.{MakesFile, rewriting_touches}
 use Rattle.uf_mfs.proofs.Reaching.{heights-with}
 use Rattle.uf_mfs.proofs.Rewriting.{cut-file, cut-touches, laid-file, laid-touches, over-agrees, over-file, stepped-counts}
+use Rattle.uf_store.specs.Among.{SavesAmong}
+use Rattle.uf_mfs.specs.Saving.{file_blocks}
+use Rattle.uf_mfs.proofs.SavingFiles.{cut-saves, laid-saves}
 use Rattle.uf_mfs.proofs.writing.rewritten_file.Goals as goal
 
 pub returns-in-Write-clause-gives : goal.returns-in-Write-clause-gives
@@ -57,3 +60,19 @@ returns-in-Write-clause-touched g c = stepped-counts c.write_at.result c.as_step
 pub returns-in-Truncate-clause-touched : goal.returns-in-Truncate-clause-touched
 returns-in-Truncate-clause-touched g c =
     stepped-counts c.truncate.result c.as_step-in-Truncate.result c.args.touches.now c.truncate.new.touches c.as_step-in-Truncate.ensures c.truncate.ensures.touched
+
+pub returns-in-Write-clause-no_other : goal.returns-in-Write-clause-no_other
+returns-in-Write-clause-no_other g c =
+    λ N m bytes plan h.
+    let X = g.S.X.BlockHash.block32 in let p = c.args.site.now.profile in let x = c.args.site.now.piece.now in let old = c.args.old.now in
+    let a = g.S.Store.seen c.args.store.now in let b = g.S.Store.seen c.write_at.new.store in
+    subst (λ (what : FileEdit). SavesAmong X (file_blocks X N p m (fitting p (rewritten what x bytes))) a.told b.told) (sym c.in-Write.is)
+    (laid-saves X N p _ a b old m bytes c.in-Write.how.offset x c.write_at.result plan h c.write_at.ensures.long c.write_at.ensures.cause c.write_at.ensures.no_other)
+
+pub returns-in-Truncate-clause-no_other : goal.returns-in-Truncate-clause-no_other
+returns-in-Truncate-clause-no_other g c =
+    λ N m bytes plan h.
+    let X = g.S.X.BlockHash.block32 in let p = c.args.site.now.profile in let x = c.args.site.now.piece.now in let old = c.args.old.now in
+    let a = g.S.Store.seen c.args.store.now in let b = g.S.Store.seen c.truncate.new.store in
+    subst (λ (what : FileEdit). SavesAmong X (file_blocks X N p m (fitting p (rewritten what x bytes))) a.told b.told) (sym c.in-Truncate.is)
+    (cut-saves X N p _ a b old m bytes c.in-Truncate.size c.truncate.result plan h c.truncate.ensures.long c.truncate.ensures.cause c.truncate.ensures.no_other)

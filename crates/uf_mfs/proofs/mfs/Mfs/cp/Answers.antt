@@ -25,6 +25,11 @@ use Rattle.std.proofs.Common.{Some}
 use Rattle.uf_store.proofs.Calls.{shown-by}
 use Rattle.uf_mfs.specs.Steps.{stop_fault}
 use Rattle.uf_mfs.proofs.Judging.{in-tree-after, in-tree-by, in-tree-told, tree-more}
+use Rattle.uf_store.specs.Among.{SavesAmong}
+use Rattle.uf_store.proofs.Among.{SavesAmong-same, SavesAmong-trans}
+use Rattle.uf_mfs.specs.Saving.{next_blocks}
+use Rattle.uf_mfs.proofs.Saving.{calm-of, saved-more}
+use Rattle.uf_mfs.proofs.SavingMoves.{copied-among, throughout-beside}
 use Rattle.uf_mfs.proofs.mfs.Mfs.cp.Goals as goal
 
 pub returns-in-Err-clause-saves : goal.returns-in-Err-clause-saves
@@ -118,3 +123,27 @@ returns-in_err-spot-in-Ok-clause-cause g c =
     let f = c.in_err-spot-in-Ok.field-0.0 in let out = err_from_is_err_and c.from_residual.result c.from_residual.ensures.1 in
     rw (out.1, out.2) (in-tree-after {A = Unit {0}} X (IsBadInTree X N (Some p) root) (Err f) a b d c.in-Ok.ensures.reads.cause
     (in-tree-by {A = Unit {0}} X (IsBadInTree X N None root) (IsBadInTree X N (Some p) root) (Err f) b d (tree-more X N p root) c.in_err-spot-in-Ok.ensures.cause))
+
+pub returns-in-Err-clause-no_other : goal.returns-in-Err-clause-no_other
+returns-in-Err-clause-no_other g c =
+    λ p es s h. SavesAmong-same g.S.X.BlockHash.block32 _ _ _ c.in-Err.ensures.reads.told
+
+pub returns-in_err-spot-in-Ok-clause-no_other : goal.returns-in_err-spot-in-Ok-clause-no_other
+returns-in_err-spot-in-Ok-clause-no_other g c =
+    λ p es s h. SavesAmong-same g.S.X.BlockHash.block32 _ _ _ (c.in_err-spot-in-Ok.ensures.told ∙ c.in-Ok.ensures.reads.told)
+
+pub returns-in_ok-spot-in-Ok-clause-no_other : goal.returns-in_ok-spot-in-Ok-clause-no_other
+returns-in_ok-spot-in-Ok-clause-no_other g c =
+    λ p es s h.
+    let X = g.S.X.BlockHash.block32 in let N = g.N.NameHash.name64 in let dest = c.args.dest.now in let self = c.args.self.now in let source = c.as_slice-names.result.now in
+    let a = g.S.Store.seen c.args.store.now in let b = g.S.Store.seen c.look.new.store in let d = g.S.Store.seen c.spot.new.store in let looked = c.in-Ok.ensures.reads in
+    let e = g.S.Store.seen c.place.new.store in let spot = c.in_ok-spot-in-Ok.spot in
+    let targeted : OnlyReads X (IsBadInTree X N None self.root.cid) None b d = record { cause = c.in_ok-spot-in-Ok.ensures.cause; told = c.in_ok-spot-in-Ok.ensures.told } in let reads = reads-reads looked targeted in
+    let m = copy-found X N p source dest es self c.in-Ok.thing spot (option_copied c.last.result) looked targeted c.last.ensures.value s.profile_is s.root (calm-of a d h.can reads.cause).faults
+    (λ s stood. c.in-Ok.ensures.looks p (Dir es) (s, tt) stood) (λ s stood. c.in_ok-spot-in-Ok.ensures.lost p es s stood) in
+    subst (λ (ns : List (List ℕ)). SavesAmong X (next_blocks X N p (copied ns dest es)) a.told e.told) c.as_slice-names.ensures
+    (saved-more X _ _ a.told e.told (copied-among X N p source dest es m.t spot m.there m.at_spot)
+    (SavesAmong-trans X _ a.told d.told e.told (SavesAmong-same X _ a.told d.told reads.told)
+    (c.place.ensures.no_other p m.t es (subst (λ x. IsPlanOf X N p x m.t) (sym c.entry_of.ensures) m.plan)
+    (record { profile_is = s.profile_is; root = subst (λ told. IsAgreed X N told p self.root (Dir es)) (sym reads.told) s.root })
+    (throughout-beside X N p a d e es source m.t m.there reads.told reads.cause h))))

@@ -1,4 +1,4 @@
-use Rattle.std.proofs.Common.{◌≡◌, ◌-◌, ◌+◌, ◌*◌, ◌∷◌, List, ℕ, Ok, Result, ap, arith, drop, length, subst, sym, take, ◌∙◌}
+use Rattle.std.proofs.Common.{◌≡◌, ◌-◌, ◌+◌, ◌*◌, ◌∷◌, List, ℕ, Ok, Result, ap, arith, drop, length, subst, sym, take, ◌∙◌, []}
 use Rattle.std.specs.Prelude.{IfOk}
 use Rattle.uf_store.specs.Calls.{OnlySaves}
 use Rattle.uf_tree.specs.declared.nodes.Entry.{Entry}
@@ -13,6 +13,12 @@ use Rattle.uf_mfs.specs.Touches.{CountsUp, TouchesFolder, crossings_of}
 use Rattle.uf_mfs.proofs.Acting.{act-good, or-edits, or-fault, or-idle, or-made, root-touches}
 use Rattle.uf_mfs.proofs.Meeting.{first-rest, no-names}
 use Rattle.uf_mfs.proofs.Touching.{touches-by}
+use Rattle.uf_store.specs.Among.{SavesAmong}
+use Rattle.uf_tree.specs.TreePlan.{blocks}
+use Rattle.uf_mfs.specs.Saving.{SavesFolder, act_blocks, between_blocks}
+use Rattle.uf_mfs.proofs.After.{back-among}
+use Rattle.uf_mfs.proofs.Saving.{saved-more, throughout-some}
+use Rattle.uf_mfs.proofs.SavingActs.{saved-between}
 use Rattle.uf_mfs.proofs.mfs.Mfs.edited_root.Goals as goal
 
 pub returns-in-len1-up-clause-edits : goal.returns-in-len1-up-clause-edits
@@ -112,3 +118,21 @@ returns-in-empty-clause-missing g c = λ put es o.
     let X = g.S.X.BlockHash.block32 in let N = g.N.NameHash.name64 in let p = c.args.self.now.profile in let root = c.args.self.now.root in let a = g.S.Store.seen c.args.store.now in
     subst (λ f. MissesOnly a.told (put_needs X N p c.args.names.now (Dir es)) f)
     (sym (c.edit_root.ensures.missing put) ∙ or-fault root c.edit_root.result ∙ ap (λ (r : Result Entry Stop). stop_fault r) (sym c.or_same.ensures)) tt
+
+pub returns-in-len1-up-clause-no_other : goal.returns-in-len1-up-clause-no_other
+returns-in-len1-up-clause-no_other g c =
+    λ t meant.
+    let X = g.S.X.BlockHash.block32 in let N = g.N.NameHash.name64 in let p = c.args.self.now.profile in let what = c.args.what in let piece = c.args.piece.now in let root = c.args.self.now.root in
+    let a = g.S.Store.seen c.args.store.now in let b = g.S.Store.seen c.edit.new.store in let name = c.name-item.result in
+    let more = take (length c.args.names.now - 1) (drop 1 c.args.names.now) in
+    let names : name ∷ more ≡ c.args.names.now = first-rest c.args.names.now name c.in-len1-up.len_at_least c.name-item.is in
+    subst (λ (l : List (List ℕ)). SavesFolder X N a b p (act_brought X N p what t) root (λ es. act_blocks X N p what l es (acted_at p what piece t l es))) names (c.edit.ensures.no_other t meant)
+
+pub returns-in-empty-clause-no_other : goal.returns-in-empty-clause-no_other
+returns-in-empty-clause-no_other g c =
+    λ t meant es plan h.
+    let X = g.S.X.BlockHash.block32 in let N = g.N.NameHash.name64 in let p = c.args.self.now.profile in let what = c.args.what in let piece = c.args.piece.now in let root = c.args.self.now.root in
+    let a = g.S.Store.seen c.args.store.now in let b = g.S.Store.seen c.edit_root.new.store in
+    subst (λ (l : List (List ℕ)). SavesAmong X (act_blocks X N p what l es (acted_at p what piece t l es)) a.told b.told) (no-names c.args.names.now c.in-empty.len_below)
+    (saved-more X _ _ a.told b.told (saved-between X N p (between_blocks X N p what [] es) (acted_root what es))
+    (c.edit_root.ensures.no_other es plan (throughout-some a b _ _ (back-among (act_brought X N p what t) (blocks X N p (Dir es))) h)))

@@ -1,9 +1,11 @@
-use Rattle.std.proofs.Common.{Err, List, Ok, subst, ℕ}
+use Rattle.std.proofs.Common.{Err, List, Ok, subst, ℕ, []}
 use Rattle.std.proofs.lemmas.Result.{err_from_is_err_and}
 use Rattle.uf_plain.specs.Moves.{allowed_move, carried}
 use Rattle.uf_mfs.specs.declared.mfs.Mfs.{Mfs}
 use Rattle.uf_mfs.specs.Moving.{MovesBy}
 use Rattle.uf_mfs.proofs.Carrying.{moves-by-held, root-moves, root-stops}
+use Rattle.uf_mfs.specs.Saving.{SavesFolder, moved_blocks}
+use Rattle.uf_mfs.proofs.SavingActs.{for-edit}
 use Rattle.uf_mfs.proofs.mfs.Mfs.mv.Goals as goal
 
 pub returns-in_err-moved-clause-lost : goal.returns-in_err-moved-clause-lost
@@ -31,3 +33,17 @@ returns-clause-answer g c = λ p es s faults clashes.
     let X = g.S.X.BlockHash.block32 in let N = g.N.NameHash.name64 in
     moves-by-held X N (g.S.Store.seen c.args.store.now) (g.S.Store.seen c.moved_root.new.store) c.args.self.now (record { profile = c.args.self.now.profile; root = c.in_ok-moved.moved })
     (λ p es. allowed_move X N p (carried c.args.source.now.names c.args.dest.now es)) (Ok tt) c.in_ok-moved.ensures.saves.saves.good (returns-clause-lost g c) p es s faults clashes
+
+pub returns-in_err-moved-clause-no_other : goal.returns-in_err-moved-clause-no_other
+returns-in_err-moved-clause-no_other g c =
+    let X = g.S.X.BlockHash.block32 in let N = g.N.NameHash.name64 in let self = c.args.self.now in let q = self.profile in
+    let a = g.S.Store.seen c.args.store.now in let b = g.S.Store.seen c.moved_root.new.store in
+    for-edit X N a b self (λ p es. moved_blocks X N p c.args.source.now.names es (carried c.args.source.now.names c.args.dest.now es))
+    (subst (λ (ns : List (List ℕ)). SavesFolder X N a b q [] self.root (λ es. moved_blocks X N q ns es (carried ns c.args.dest.now es))) c.as_slice-names.ensures c.in_err-moved.ensures.no_other)
+
+pub returns-clause-no_other : goal.returns-clause-no_other
+returns-clause-no_other g c =
+    let X = g.S.X.BlockHash.block32 in let N = g.N.NameHash.name64 in let self = c.args.self.now in let q = self.profile in
+    let a = g.S.Store.seen c.args.store.now in let b = g.S.Store.seen c.moved_root.new.store in
+    for-edit X N a b self (λ p es. moved_blocks X N p c.args.source.now.names es (carried c.args.source.now.names c.args.dest.now es))
+    (subst (λ (ns : List (List ℕ)). SavesFolder X N a b q [] self.root (λ es. moved_blocks X N q ns es (carried ns c.args.dest.now es))) c.as_slice-names.ensures c.in_ok-moved.ensures.no_other)

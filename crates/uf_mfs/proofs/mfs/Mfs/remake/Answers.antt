@@ -5,8 +5,11 @@ use Rattle.uf_plain.specs.Rules.{allowed}
 use Rattle.uf_mfs.specs.Steps.{MovesTree}
 use Rattle.uf_tree.specs.Metas.{none}
 use Rattle.uf_tree.specs.Tree.{Dir, Nothing}
-use Rattle.uf_mfs.proofs.MetaEdits.{remade-edits, remade-touches}
+use Rattle.uf_mfs.proofs.MetaEdits.{remade-edits, remade-touches, remakes-at}
 use Rattle.uf_mfs.proofs.Settling.{moves-held, moves-tree, settled-same}
+use Rattle.uf_store.specs.Among.{SavesAmong}
+use Rattle.uf_mfs.specs.Saving.{SavesFolder, next_blocks}
+use Rattle.uf_mfs.proofs.SavingActs.{for-edit}
 use Rattle.uf_mfs.proofs.mfs.Mfs.remake.Goals as goal
 
 pub returns-clause-lost : goal.returns-clause-lost
@@ -32,3 +35,11 @@ pub returns-clause-idle : goal.returns-clause-idle
 returns-clause-idle g c = λ p es t s stood there same.
     let done = c.edited_root-edited.ensures.idle p es t s.root stood (subst (λ (ns : List (List ℕ)). at 0 ns (Dir es) ≡ Ok t) (sym c.as_slice-names.ensures) there) same in
     (done.0, settled-same c.as_slice-names.result.now c.edited_root-edited.result c.args.self.now c.take_over.new.self c.take_over.result c.take_over.ensures.settles c.take_over.ensures.stays.0 done.1)
+
+pub returns-clause-no_other : goal.returns-clause-no_other
+returns-clause-no_other g c =
+    let X = g.S.X.BlockHash.block32 in let N = g.N.NameHash.name64 in let self = c.args.self.now in let q = self.profile in let names = c.as_slice-names.result.now in
+    let a = g.S.Store.seen c.args.store.now in let b = g.S.Store.seen c.edited_root-edited.new.store in
+    for-edit X N a b self (λ p es. next_blocks X N p (meta_edited c.args.what c.args.path.now.names es))
+    (subst (λ (ns : List (List ℕ)). SavesFolder X N a b q [] self.root (λ es. next_blocks X N q (meta_edited c.args.what ns es))) c.as_slice-names.ensures (λ es plan h.
+    subst (λ w. SavesAmong X (next_blocks X N q w) a.told b.told) (remakes-at X N q c.args.what names es) (c.edited_root-edited.ensures.no_other (Dir (Nothing none)) tt es plan h)))

@@ -10,6 +10,9 @@ use Rattle.uf_mfs.specs.Steps.{MovesTree}
 use Rattle.uf_mfs.specs.Touches.{TouchesFolder, touch_bound, weighing_at, where_done}
 use Rattle.uf_mfs.proofs.Removing.{removal-touches, removed-edits, removes-at}
 use Rattle.uf_mfs.proofs.Settling.{moves-held, moves-tree}
+use Rattle.uf_store.specs.Among.{SavesAmong}
+use Rattle.uf_mfs.specs.Saving.{SavesFolder, removed_blocks, saved_for, taken_blocks}
+use Rattle.uf_mfs.proofs.SavingActs.{for-edit}
 use Rattle.uf_mfs.proofs.mfs.Mfs.rm.Goals as goal
 
 pub returns-clause-lost : goal.returns-clause-lost
@@ -35,3 +38,11 @@ returns-clause-touches g c = λ p same.
     subst (λ (q : Profile). TouchesFolder X N q a b [] root (λ es. touch_bound X N q c.args.path.now.names es (removed c.args.recursive c.args.path.now.names es) + where_done (removed c.args.recursive c.args.path.now.names es) (weighing_at X N q c.args.path.now.names es)) t0 t1) same
     (subst (λ (ns : List (List ℕ)). TouchesFolder X N c.args.self.now.profile a b [] root (λ es. touch_bound X N c.args.self.now.profile ns es (removed c.args.recursive ns es) + where_done (removed c.args.recursive ns es) (weighing_at X N c.args.self.now.profile ns es)) t0 t1) c.as_slice-names.ensures
     (removal-touches X N c.args.self.now.profile root c.args.recursive c.as_slice-names.result.now t0 t1 (c.edited_root-edited.ensures.touches (Dir (Nothing none)) (λ n. n) tt tt)))
+
+pub returns-clause-no_other : goal.returns-clause-no_other
+returns-clause-no_other g c =
+    let X = g.S.X.BlockHash.block32 in let N = g.N.NameHash.name64 in let self = c.args.self.now in let q = self.profile in let names = c.as_slice-names.result.now in
+    let a = g.S.Store.seen c.args.store.now in let b = g.S.Store.seen c.edited_root-edited.new.store in
+    for-edit X N a b self (λ p es. removed_blocks X N p c.args.recursive c.args.path.now.names es)
+    (subst (λ (ns : List (List ℕ)). SavesFolder X N a b q [] self.root (λ es. removed_blocks X N q c.args.recursive ns es)) c.as_slice-names.ensures (λ es plan h.
+    subst (λ w. SavesAmong X (saved_for X N q (taken_blocks X N q names es) w) a.told b.told) (removes-at q c.args.recursive names es) (c.edited_root-edited.ensures.no_other (Dir (Nothing none)) tt es plan h)))

@@ -17,6 +17,8 @@ use Rattle.uf_plain.specs.Rules.{allowed}
 use Rattle.uf_mfs.specs.Answers.{EditsAfter}
 use Rattle.uf_mfs.specs.Touches.{CountsUp, crossings_of}
 use Rattle.uf_mfs.proofs.Removing.{makes-at}
+use Rattle.uf_store.specs.Among.{SavesAmong}
+use Rattle.uf_mfs.specs.Saving.{next_blocks}
 use Rattle.uf_mfs.proofs.mfs.Mfs.root_with_dirs.Goals as goal
 
 pub returns-else-parents-clause-edits : goal.returns-else-parents-clause-edits
@@ -62,3 +64,18 @@ returns-then-parents-clause-touches g c = λ es o.
 pub returns-then-parents-clause-touched : goal.returns-then-parents-clause-touched
 returns-then-parents-clause-touched g c =
     subst (λ f. CountsUp f c.args.touches.now c.fill.new.touches) (or-fault c.args.self.now.root c.fill.result ∙ ap (λ (r : Result Entry Stop). stop_fault r) (sym c.or_same.ensures)) c.fill.ensures.touched
+
+pub returns-then-parents-clause-no_other : goal.returns-then-parents-clause-no_other
+returns-then-parents-clause-no_other g c =
+    λ es plan h.
+    let X = g.S.X.BlockHash.block32 in let N = g.N.NameHash.name64 in let p = c.args.self.now.profile in let names = c.args.names.now in
+    let a = g.S.Store.seen c.args.store.now in let b = g.S.Store.seen c.fill.new.store in
+    let same = sym (ap (λ (b : Bool). made b names es) c.if-parents.true ∙ made-true names es) in
+    subst (λ w. SavesAmong X (next_blocks X N p w) a.told b.told) same (c.fill.ensures.no_other es plan h)
+
+pub returns-else-parents-clause-no_other : goal.returns-else-parents-clause-no_other
+returns-else-parents-clause-no_other g c =
+    λ es plan h.
+    let X = g.S.X.BlockHash.block32 in let N = g.N.NameHash.name64 in let p = c.args.self.now.profile in let names = c.args.names.now in
+    let a = g.S.Store.seen c.args.store.now in let b = g.S.Store.seen c.edited_root.new.store in
+    subst (λ w. SavesAmong X (next_blocks X N p w) a.told b.told) (makes-at p c.args.parents names es c.if-parents.false) (c.edited_root.ensures.no_other (Dir (Nothing none)) tt es plan h)

@@ -9,6 +9,10 @@ use Rattle.uf_mfs.specs.Steps.{MovesTree}
 use Rattle.uf_mfs.specs.Reading.{AreHeights}
 use Rattle.uf_mfs.proofs.Fitting.{rewritten-edits, rewritten-touches}
 use Rattle.uf_mfs.proofs.Settling.{moves-held, moves-tree}
+use Rattle.uf_store.specs.Among.{SavesAmong}
+use Rattle.uf_mfs.specs.Saving.{SavesFolder, next_blocks}
+use Rattle.uf_mfs.specs.Writes.{fitting_edit}
+use Rattle.uf_mfs.proofs.SavingActs.{for-edit, writes-at}
 use Rattle.uf_mfs.proofs.mfs.Mfs.truncate.Goals as goal
 
 pub returns-clause-lost : goal.returns-clause-lost
@@ -29,3 +33,11 @@ returns-clause-touches g c = λ p rows same heights.
     let X = g.S.X.BlockHash.block32 in let N = g.N.NameHash.name64 in let own = c.args.self.now.profile in
     rewritten-touches X N own p c.args.self.now.root (Truncate c.args.length) [] rows c.as_slice-names.result.now c.args.path.now.names c.args.touches.now c.edited_root-edited.new.touches same c.as_slice-names.ensures
     (c.edited_root-edited.ensures.touches (Dir (Nothing none)) rows tt (subst (λ (q : Profile). AreHeights q rows) (sym same) heights))
+
+pub returns-clause-no_other : goal.returns-clause-no_other
+returns-clause-no_other g c =
+    let X = g.S.X.BlockHash.block32 in let N = g.N.NameHash.name64 in let self = c.args.self.now in let q = self.profile in let names = c.as_slice-names.result.now in
+    let a = g.S.Store.seen c.args.store.now in let b = g.S.Store.seen c.edited_root-edited.new.store in
+    for-edit X N a b self (λ p es. next_blocks X N p (fitting_edit p (Truncate c.args.length) [] c.args.path.now.names es))
+    (subst (λ (ns : List (List ℕ)). SavesFolder X N a b q [] self.root (λ es. next_blocks X N q (fitting_edit q (Truncate c.args.length) [] ns es))) c.as_slice-names.ensures (λ es plan h.
+    subst (λ w. SavesAmong X (next_blocks X N q w) a.told b.told) (writes-at X N q (Truncate c.args.length) [] (Dir (Nothing none)) names es) (c.edited_root-edited.ensures.no_other (Dir (Nothing none)) tt es plan h)))
