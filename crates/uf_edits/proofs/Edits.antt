@@ -8,6 +8,8 @@ use Rattle.uf_cid.specs.declared.cid.Cid.{Cid}
 use Rattle.uf_mfs.specs.Bad.{IsBadInTree}
 use Rattle.uf_mfs.specs.Moving.{GivesOr, IsOntoItself}
 use Rattle.uf_mfs.specs.Reading.{AreHeights}
+use Rattle.uf_mfs.specs.Saving.{SavesForEdit}
+use Rattle.uf_mfs.specs.Showing.{KeepsMfs}
 use Rattle.uf_mfs.specs.Standing.{StandsAfter, StandsAt, StandsOver}
 use Rattle.uf_mfs.specs.Remade.{IsBadRemadeIn}
 use Rattle.uf_mfs.specs.Steps.{MovesTree, tree_fault}
@@ -38,7 +40,7 @@ use Rattle.uf_tree.specs.TreePlan.{blocks}
 use Rattle.uf_tree.specs.declared.meta.Meta.{Meta}
 use Rattle.uf_tree.specs.declared.profile.Profile.{Profile}
 use Rattle.uf_command.specs.Commands.{has_nothing_to_do, is_file_at, is_itself, is_onto_itself}
-use Rattle.uf_edits.specs.Edits.{edited_by, touches_of_edit, EditsInMemory, IsBadAsked}
+use Rattle.uf_edits.specs.Edits.{edited_blocks, edited_by, touches_of_edit, EditsInMemory, IsBadAsked}
 use Rattle.uf_command.specs.declared.types.Edit.{Edit}
 use Rattle.uf_command.specs.declared.types.Edit.TheVariants.{Mkdir, Write}
 
@@ -116,7 +118,7 @@ module _ (X : List ℕ → List ℕ) (N : List ℕ → ℕ) (p : Profile) (r : R
 
 module _ (X : List ℕ → List ℕ) (N : List ℕ → ℕ) (was is : Mfs) (path : Path) (a b : Seen) (t0 t1 : ℕ) (r : Result (Unit {0}) MfsFault)
     (cause : ShownInTree X (IsBadAsked X N was.profile b.told was.root.cid) r a b) (up : CountsUp (tree_fault r) t0 t1)
-    (good : KeepsGood X a.told b.told) (saves : SavesOnly X a.told b.told) where
+    (good : KeepsGood X a.told b.told) (saves : SavesOnly X a.told b.told) (stays : KeepsMfs was is r) where
   -- an edit that is told with its path
   pub told-edit : (edit : Edit) (next : Profile → Entries → Result Entries Refused)
       → ((p : Profile) (es : Entries) → edited_by X N edit path.names p es ≡ told_of path.names (next p es))
@@ -125,8 +127,9 @@ module _ (X : List ℕ → List ℕ) (N : List ℕ → ℕ) (was is : Mfs) (path
       → MovesTree X N a b [] was is path.names next r
       → ((p : Profile) (es : Entries) → StandsOver X N a.told was p es → Stood a.faults b.faults → has_nothing_to_do edit path.names es ≡ true → (b.told ≡ a.told) × (is ≡ was))
       → ((p : Profile) (rows : ℕ → ℕ) → was.profile ≡ p → AreHeights p rows → TouchesFolder X N p a b [] was.root (λ es. touches_of_edit X N rows edit path.names p es) t0 t1)
+      → SavesForEdit X N a b was (edited_blocks X N edit path.names)
       → EditsInMemory X N was is edit path r a b t0 t1
-  told-edit edit next same answer lost idle touches = record {
+  told-edit edit next same answer lost idle touches no_other = record {
     answers = λ p es at_tree calm. subst (λ w. GivesOr (λ f. f ≡ Memory) (λ fs done. StandsAt X N b.told is p fs) w r) (sym (same p es))
         (answers-gives (λ f. f ≡ Memory) (λ fs done. StandsAt X N b.told is p fs) path.names (next p es) r (answer p es at_tree calm.faults calm.clashes));
     lost = λ p es profile over. subst (λ w. GivesOr (IsLossOf a.told (blocks X N p (Dir es))) (λ fs done. StandsAfter X N a.told b.told (blocks X N p (Dir es)) is p fs) w r) (sym (same p es))
@@ -135,6 +138,8 @@ module _ (X : List ℕ → List ℕ) (N : List ℕ → ℕ) (was is : Mfs) (path
     cause = cause;
     touches = touches;
     touched = up;
+    stays = stays;
     good = good;
     saves = saves;
+    no_other = no_other;
   }

@@ -1,6 +1,7 @@
 -- An edit as words ask for it: the tree after it, the touches that it may need, and how it is done to a tree in memory.
 use Rattle.std.specs.Prelude.{◌≡◌, ◌⊎◌, ℕ, ◌+◌, ◌*◌, List, [], length, true, ⊤}
 use Rattle.std.specs.declared.result.Result.{Result}
+use Rattle.uf_cid.specs.Blocks.{Held}
 use Rattle.uf_cid.specs.declared.cid.Cid.{Cid}
 use Rattle.uf_command.specs.Commands.{has_nothing_to_do}
 use Rattle.uf_command.specs.declared.types.Edit.{Edit}
@@ -10,10 +11,12 @@ use Rattle.uf_fileread.specs.Bad.{IsBadRoot}
 use Rattle.uf_mfs.specs.Answers.{ShownInTree}
 use Rattle.uf_mfs.specs.Moving.{Gives, MovesBy, copy_bound, move_bound}
 use Rattle.uf_mfs.specs.Reading.{AreHeights}
+use Rattle.uf_mfs.specs.Saving.{SavesForEdit, moved_blocks, next_blocks, removed_blocks}
+use Rattle.uf_mfs.specs.Showing.{KeepsMfs}
 use Rattle.uf_mfs.specs.Standing.{StandsAt, StandsOver}
 use Rattle.uf_mfs.specs.Steps.{tree_fault}
 use Rattle.uf_mfs.specs.Touches.{CountsUp, TouchesFolder, touch_bound, weighing_at, where_done}
-use Rattle.uf_mfs.specs.Writes.{IsBadWrittenIn, writing_bound}
+use Rattle.uf_mfs.specs.Writes.{IsBadWrittenIn, fitting_edit, writing_bound}
 use Rattle.uf_mfs.specs.declared.fault.MfsFault.{MfsFault}
 use Rattle.uf_mfs.specs.declared.fault.MfsFault.TheVariants as mfs
 use Rattle.uf_mfs.specs.declared.mfs.Mfs.{Mfs}
@@ -58,6 +61,17 @@ module _ (X : List ℕ → List ℕ) (N : List ℕ → ℕ) where
   edited_by (Mv dest) names p es = allowed_move X N p (carried names dest es)
   edited_by (SetMeta what) names p es = told_of names (allowed X N p (meta_edited what names es))
 
+  -- the blocks that an edit at these names may save: those of the tree that it gives, before its plan is looked at, and
+  -- those that it makes in between
+  abbrev pub edited_blocks : Edit → List (List ℕ) → Profile → Entries → List Held
+  edited_blocks (Mkdir parents) names p es = next_blocks X N p (made parents names es)
+  edited_blocks (Rm recursive) names p es = removed_blocks X N p recursive names es
+  edited_blocks (Write how piece) names p es = next_blocks X N p (fitting_edit p (file.Write how) piece names es)
+  edited_blocks (Truncate size) names p es = next_blocks X N p (fitting_edit p (file.Truncate size) [] names es)
+  edited_blocks (Cp dest) names p es = next_blocks X N p (copied names dest es)
+  edited_blocks (Mv dest) names p es = moved_blocks X N p names es (carried names dest es)
+  edited_blocks (SetMeta what) names p es = next_blocks X N p (meta_edited what names es)
+
 -- a file of n bytes has rows n rows of nodes
 module _ (X : List ℕ → List ℕ) (N : List ℕ → ℕ) (rows : ℕ → ℕ) where
   -- the most touches of an edit at these names: those of the names alone where a rule refuses it before its plan is
@@ -87,5 +101,7 @@ module _ (X : List ℕ → List ℕ) (N : List ℕ → ℕ) where
     pub touches : (p : Profile) (rows : ℕ → ℕ) → tree.profile ≡ p → AreHeights p rows
         → TouchesFolder X N p before now [] tree.root (λ es. touches_of_edit X N rows edit path.names p es) was is
     pub touched : CountsUp (tree_fault done) was is
+    pub stays : KeepsMfs tree next done
     pub good : KeepsGood X before.told now.told
     pub saves : SavesOnly X before.told now.told
+    pub no_other : SavesForEdit X N before now tree (edited_blocks X N edit path.names)

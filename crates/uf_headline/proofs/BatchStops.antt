@@ -58,6 +58,7 @@ use Rattle.uf_headline.proofs.Firm.{added-is, cut, firm-leaves, safe-firm}
 use Rattle.uf_headline.proofs.LineHosts.{Suits, asks-suits}
 use Rattle.uf_top.proofs.Pins.{noted-pins, notes-wrote, syncs-wrote}
 use Rattle.uf_headline.proofs.Ran.{line-ran}
+use Rattle.uf_top.proofs.Shaped.{head-after}
 use Rattle.uf_top.proofs.Standings.{stands-kept}
 use Rattle.uf_headline.proofs.Stopped.{words-end}
 use Rattle.uf_top.proofs.Counted.{but-errors, with_sinks}
@@ -114,7 +115,7 @@ module _ (X : List ℕ → List ℕ) where
   shape-wrote SyncsBlocks false a b h = left-wrote a b h
   shape-wrote MakesHead true a b h = head-wrote a b h.1
   shape-wrote MakesHead false a b h = left-wrote a b h
-  shape-wrote MovesHead true a b h = head-wrote a b h
+  shape-wrote MovesHead true a b h = head-wrote a b (head-after X a b h)
   shape-wrote MovesHead false a b h = left-wrote a b h
   shape-wrote SyncsPins done a b h = syncs-wrote X done a b h
   shape-wrote NotesPins done a b h = notes-wrote X done a b h

@@ -43,7 +43,7 @@ use Rattle.uf_tree.specs.Tree.{Dir, Entries}
 use Rattle.uf_tree.specs.TreePlan.{blocks as tree_blocks, entry}
 use Rattle.uf_tree.specs.Validity.{IsHash}
 use Rattle.uf_tree.specs.declared.profile.Profile.{Profile}
-use Rattle.uf_headline.specs.Calls.{AllCallOver, AllHappen, AreDone, Calls, CallsOver, CountsAs, End, Event, IsCall, IsReopened, IsSafeAs, LeftBy, LosesSome, NamesTree, Stopped, Whole, after_call, done_in, was_done}
+use Rattle.uf_headline.specs.Calls.{AllCallOver, AllHappen, AreDone, Calls, CallsOver, CountsAs, End, Event, IsCall, IsReopened, IsSafeAs, LeftBy, LosesSome, MeanwhileOver, NamesTree, Stopped, Whole, after_call, blocks_of, done_in, was_done}
 use Rattle.uf_headline.specs.History.{IsDone, Step, told_after, told_before}
 use Rattle.uf_headline.specs.Replies.{entries_replied, replied_by, standing_replied}
 use Rattle.uf_headline.proofs.Histories.{replied-stands, reply-next}
@@ -263,6 +263,25 @@ module _ (X : List ℕ → List ℕ) (N : List ℕ → ℕ) where
     root = record { plan = names.root.plan; agrees = part-agrees b.held a.held lost.part (tree_blocks X N p (Dir es)) names.root.agrees };
   }
 
+  -- what came between
+  pub meanwhile-names : (s : Standing) (a b : Contents) → MeanwhileOver X N s a b → NamesTree X N (Some a) s → NamesTree X N (Some b) s
+  meanwhile-names NoHead a b m names = absurd names
+  meanwhile-names BadHead a b m names = absurd names
+  meanwhile-names (Stands p es) a b (inl lost) names = lost-names a b p es lost names
+  meanwhile-names (Stands p es) a b (inr kept) names = record {
+    head = subst (λ n. IsHeadNote n p (entry X N p (Dir es)).cid) (sym kept.head) names.head;
+    root = record { plan = names.root.plan; agrees = kept.agrees };
+  }
+
+  pub losses-then : (s : Standing) (a m b : Contents) → MeanwhileOver X N s a m → MeanwhileOver X N s m b → MeanwhileOver X N s a b
+  losses-then s a m b (inl first) (inl last) = inl (record { head = last.head ∙ first.head; part = λ c bytes is. first.part c bytes (last.part c bytes is) })
+  losses-then s a m b (inr first) (inl last) = inr (record { head = last.head ∙ first.head; agrees = part-agrees b.held m.held last.part (blocks_of X N s) first.agrees })
+  losses-then s a m b (inl first) (inr last) = inr (record { head = last.head ∙ first.head; agrees = last.agrees })
+  losses-then s a m b (inr first) (inr last) = inr (record { head = last.head ∙ first.head; agrees = last.agrees })
+
+  pub nothing-lost : (s : Standing) (a b : Contents) → b ≡ a → MeanwhileOver X N s a b
+  nothing-lost s a b same = subst (MeanwhileOver X N s a) (sym same) (inl (record { head = refl; part = λ c bytes is. is }))
+
   after-agrees : (a b : Told) (old new : List Held) → AgreesAfter a b old new → Agrees b new
   after-agrees a None old new h = h
   after-agrees a (Some t) old new h = h.0
@@ -331,10 +350,10 @@ module _ (X : List ℕ → List ℕ) (N : List ℕ → ℕ) where
   over-names step BadHead a b o names = absurd names
   over-names step (Stands p es) a b o names =
       subst (λ x. NamesTree X N x (after_call X N step (Stands p es))) o.last
-      (call-names step o.call p es (subst (λ x. NamesOver X N x p es) (sym o.first) (lost-names a o.found p es o.lost names)) (subst (λ x. Agrees x (tree_blocks X N p (Dir es))) (sym o.last) o.agrees))
+      (call-names step o.call p es (subst (λ x. NamesOver X N x p es) (sym o.first) (meanwhile-names (Stands p es) a o.found o.meanwhile names)) (subst (λ x. Agrees x (tree_blocks X N p (Dir es))) (sym o.last) o.agrees))
 
   pub all-named : (steps : List Step) (s : Standing) (a b : Contents) → NamesTree X N (Some a) s → AllCallOver X N steps s a b → NamesTree X N (Some b) (standing_replied X N (done_in steps) s)
-  all-named [] s a b names h = subst (λ t. NamesTree X N (Some t) s) (sym h) names
+  all-named [] s a b names h = meanwhile-names s a b h names
   all-named (step ∷ steps) s a b names h =
       subst (NamesTree X N (Some b)) (sym (pick (was_done step) step X N (done_in steps) s))
       (all-named steps (after_call X N step s) h.0 b (over-names step s a h.0 h.1 names) h.2)

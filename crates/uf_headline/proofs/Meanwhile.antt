@@ -6,6 +6,7 @@ use Rattle.uf_command.specs.declared.types.Refusal.{Refusal}
 use Rattle.uf_mfs.specs.Standing.{TellsAs, head_in}
 use Rattle.uf_pins.proofs.Decided.{note-read}
 use Rattle.uf_store.specs.Contents.{Contents, Notes, Told}
+use Rattle.uf_store.specs.Keeping.{Agrees}
 use Rattle.uf_store.specs.Seen.{Seen}
 use Rattle.uf_store.specs.declared.store.Write.{Write}
 use Rattle.uf_top.specs.Around.{Around}
@@ -14,9 +15,9 @@ use Rattle.uf_top.specs.Collecting.{KeepsFor, RunsGc, kept_in}
 use Rattle.uf_top.specs.Outcomes.{IsSafeFor}
 use Rattle.uf_top.specs.Talking.{RunsPull, RunsServe}
 use Rattle.uf_tree.specs.Standing.{Standing}
-use Rattle.uf_headline.specs.Calls.{IsReopened, SafelyBetween}
+use Rattle.uf_headline.specs.Calls.{IsReopened, MeanwhileOver, SafelyBetween, blocks_of}
 use Rattle.uf_headline.specs.History.{Between}
-use Rattle.uf_headline.proofs.Calling.{reopened-safe}
+use Rattle.uf_headline.proofs.Calling.{nothing-lost, reopened-safe}
 use Rattle.uf_headline.proofs.Pulled.{pull-safe, pull-stops}
 
 -- what is kept or not of a collection, the Head stays
@@ -87,3 +88,20 @@ module _ (X : List ℕ → List ℕ) (N : List ℕ → ℕ) where
 
     pub gc-safely : RunsGc X N given a b → SafelyBetween X N t u
     gc-safely runs = record { safe = λ p es h. runs.safe t u p es was is h }
+
+-- ---- over a store that loses blocks
+
+module _ (X : List ℕ → List ℕ) (N : List ℕ → ℕ) (s : Standing) (given : Status) (a b : Around) (t u : Contents) (was : a.store.told ≡ Some t) (is : b.store.told ≡ Some u) where
+  pub pull-named : (cid : Cid) → RunsPull X N cid given a b → Agrees (Some u) (blocks_of X N s) → MeanwhileOver X N s t u
+  pull-named cid runs agrees = inr (record { head = sym (ap head_in is) ∙ runs.head ∙ ap head_in was; agrees = agrees })
+
+  pub serve-named : RunsServe X N given a b → MeanwhileOver X N s t u
+  serve-named runs = nothing-lost X N s t u (same-contents a.store.told b.store.told t u runs.told was is)
+
+  pub check-named : (absent : Bool) (root : Cid) (names : List (List ℕ)) → RunsCheck X N absent root names given a b → MeanwhileOver X N s t u
+  check-named absent root names runs = nothing-lost X N s t u (same-contents a.store.told b.store.told t u (ap (λ (x : Seen). x.told) runs.store) was is)
+
+  pub gc-named : RunsGc X N given a b → Agrees (Some u) (blocks_of X N s) → MeanwhileOver X N s t u
+  gc-named runs agrees =
+      let found = note-read t.notes.pins in
+      inr (record { head = sym (ap head_in is) ∙ kept-head t (kept_in t found.0) b.store.told (runs.keeps t found.0 was found.1); agrees = agrees })

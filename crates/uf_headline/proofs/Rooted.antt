@@ -29,6 +29,7 @@ use Rattle.uf_top.specs.Reply.{Outside, from_reply, hosted, reply_to, world_of}
 use Rattle.uf_top.specs.Shapes.{HeadAfter, WritesAs, WritesFor, is_done}
 use Rattle.uf_top.proofs.Inputs.{add-head}
 use Rattle.uf_top.proofs.Pins.{pins-head}
+use Rattle.uf_top.proofs.Shaped.{head-after}
 use Rattle.uf_top.proofs.Standings.{stands-kept}
 use Rattle.uf_tree.specs.Heads.{IsHeadText, head_text, text_in}
 use Rattle.uf_tree.specs.Profiles.{usual}
@@ -168,7 +169,7 @@ module _ (X : List ℕ → List ℕ) where
   writes-new SyncsBlocks done a b w n = same-new a b (add-head X done a b w) n
   writes-new MakesHead true a b w n = after-new a b w.1 n
   writes-new MakesHead false a b w n = leaves-new a b w n
-  writes-new MovesHead true a b w n = after-new a b w n
+  writes-new MovesHead true a b w n = after-new a b (head-after X a b w) n
   writes-new MovesHead false a b w n = leaves-new a b w n
   writes-new SyncsPins true a b (inl w) n = same-new a b (ap head_in w ∙ sync-same a) n
   writes-new SyncsPins true a b (inr w) n = same-new a b (ap head_in w.1 ∙ note-same w.0 (changed with_sync a) ∙ sync-same a) n

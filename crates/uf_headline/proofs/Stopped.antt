@@ -23,6 +23,7 @@ use Rattle.uf_command.specs.Natures.{WriteShape, MakesHead, MovesHead, NoWrites,
 use Rattle.uf_command.specs.declared.types.Command.{Command}
 use Rattle.uf_command.specs.declared.types.Refusal.{Refusal}
 use Rattle.uf_top.proofs.Notes.{note-there}
+use Rattle.uf_top.proofs.Shaped.{head-after}
 use Rattle.uf_top.specs.Outcomes.{EachOutcome, EachStop, IsSafeFor, LeavesEither, LeavesNoneOr, LeavesTree}
 use Rattle.uf_top.specs.Shapes.{HeadAfter, SyncsAfter, WritesAs, WritesFor}
 use Rattle.uf_headline.proofs.Firm.{IsFirm, firm-leaves, firm-of, firm-pinned, plain-pinned, firm-safe, firm-saved, firm-stands, firm-synced, holds-part, noted-firm, plain-noted, plain-saves, plain-synced, safe-firm, saves-append, stops-none, stops-one, stops-saves, stops-then, synced-firm}
@@ -252,7 +253,7 @@ module _ (X : List ℕ → List ℕ) where
       shape-ends SyncsBlocks false b written next = leaves-ends b written next
       shape-ends MakesHead true b written next = head-ends b written.1 next
       shape-ends MakesHead false b written next = leaves-ends b written next
-      shape-ends MovesHead true b written next = head-ends b written next
+      shape-ends MovesHead true b written next = head-ends b (head-after X (Some a) (Some b) written) next
       shape-ends MovesHead false b written next = leaves-ends b written next
       shape-ends SyncsPins true b (inl written) next = leaves-ends b (record { between = Some a; saves = SavesOnly-refl X (Some a); last = OnlySynced written }) next
       shape-ends SyncsPins true b (inr written) next = along b (pinned written.0 (with_sync a)) (told-is b (pinned written.0 (with_sync a)) written.1) next (pinned-ends (with_sync a) (Synced ∷ []) refl (plain-synced X a safe.safe.plain) (synced-firm-too a none-saved-yet) (synced-stops a none-saved-yet) written.0)

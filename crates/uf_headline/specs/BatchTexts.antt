@@ -72,7 +72,8 @@ module _ (X : List ℕ → List ℕ) (N : List ℕ → ℕ) (host : HostTree) wh
     pub found : LineFinds line before
     pub printed : AppendsPrefix (whole_text (line_reply X N host standing found)) before.held now.held
 
-  -- what the output gets at the end of a batch: a prefix of the last line's text, where it ends at one, and else nothing
+  -- what the output gets at the end of a batch: a prefix of the last line's text, where it ends at one, and else
+  -- nothing
   abbrev pub PrintsLast : Ending X N → Standing → Around → Around → Type 0
   PrintsLast (AtLine line) standing before now = PrintsFront line standing before now
   PrintsLast ending standing before now = now.held ≡ before.held

@@ -149,18 +149,28 @@ module _ (X : List ℕ → List ℕ) (N : List ℕ → ℕ) where
   NamesTree told BadHead = ⊥
   NamesTree told (Stands p es) = NamesOver X N told p es
 
+  -- a pull, a serve, a collection or a check came: the Head is as before, and no CID of the tree's blocks has got other
+  -- bytes, which would have their digest
+  pub record LeavesNamed (standing : Standing) (before now : Contents) : Type 0 where
+    pub head : now.notes.head ≡ before.notes.head
+    pub agrees : Agrees (Some now) (blocks_of standing)
+
+  -- what may come before such calls, between them and after them: blocks may have been lost, or one of these came
+  abbrev pub MeanwhileOver : Standing → Contents → Contents → Type 0
+  MeanwhileOver standing before now = LosesSome before now ⊎ LeavesNamed standing before now
+
   -- a call over what is left of these contents: it has given no CID of the tree's blocks other bytes, which would have
   -- their digest
   pub record CallsOver (step : Step) (standing : Standing) (before now : Contents) : Type 0 where
     pub found : Contents
-    pub lost : LosesSome before found
+    pub meanwhile : MeanwhileOver standing before found
     pub first : told_before step ≡ Some found
     pub last : told_after step ≡ Some now
     pub call : IsCall step
     pub agrees : Agrees (Some now) (blocks_of standing)
 
-  -- calls one after the other, before each of which blocks may have been lost
+  -- calls one after the other, where blocks may have been lost, with what may come between
   abbrev pub AllCallOver : List Step → Standing → Contents → Contents → Type 0
-  AllCallOver [] standing before now = now ≡ before
+  AllCallOver [] standing before now = MeanwhileOver standing before now
   AllCallOver (step ∷ steps) standing before now = (between : Contents) × CallsOver step standing before between
       × AllCallOver steps (after_call step standing) between now

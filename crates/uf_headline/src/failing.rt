@@ -23,9 +23,10 @@ pub fn what_fails_leaves_the_tree()
         → TellsAs X N now (standing_replied X N (done_in steps) standing) }
 {}
 
-/// The same where blocks are lost before calls: the Head then names what the calls that were done make of the tree,
-/// and what is held of its blocks is right. No call gives a CID of the tree's blocks other bytes: these would have
-/// the digest of the block that was lost, and no store could see that.
+/// The same where blocks are lost before calls, with pulls, serves, collections and checks between them: the Head then
+/// names what the calls that were done make of the tree, and what is held of its blocks is right. Nothing gives a CID
+/// of the tree's blocks other bytes: these would have the digest of the block that was lost, and no store could see
+/// that.
 pub fn what_is_lost_leaves_the_tree_named()
     ensures { (X : List ℕ → List ℕ) (N : List ℕ → ℕ) (steps : List Step) (before now : Contents) (p : Profile)
         (es : Entries) → NamesTree X N (Some before) (Stands p es)

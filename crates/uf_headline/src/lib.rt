@@ -27,7 +27,10 @@ ghost use Rattle.uf_headline.specs.History.{standing_after};
 ghost use Rattle.uf_headline.specs.Places.{place_at};
 
 pub use batches::{a_batch_is_a_history, a_batch_is_a_list_of_calls};
-pub use between::{pulls_and_collections_come_between, pulls_and_collections_leave_a_tree_safe};
+pub use between::{
+    pulls_and_collections_come_between, pulls_and_collections_come_between_losses,
+    pulls_and_collections_leave_a_tree_safe,
+};
 pub use failing::{
     what_fails_leaves_the_tree, what_is_lost_leaves_the_tree_named, what_is_stopped_is_done_or_not,
 };

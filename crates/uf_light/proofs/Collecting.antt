@@ -15,7 +15,7 @@ use Rattle.uf_laws.proofs.Held.{trail-among}
 use Rattle.uf_plain.specs.declared.rule.Refused.{Refused}
 use Rattle.uf_plain.specs.declared.rule.Refused.TheVariants as why
 use Rattle.uf_plain.specs.Edits.{at, child}
-use Rattle.uf_plain.specs.Needs.{member_needs, root_of}
+use Rattle.uf_plain.specs.Needs.{root_of, way}
 use Rattle.uf_plain.specs.Replies.{root_block}
 use Rattle.uf_light.specs.declared.met.PathEnd.{PathEnd}
 use Rattle.uf_light.specs.declared.thing.TypedEntry.{TypedEntry}
@@ -25,8 +25,8 @@ use Rattle.uf_light.specs.Gathered.{Gathered, Gathers}
 use Rattle.uf_light.specs.Light.{trails}
 use Rattle.uf_light.specs.Standing.{IsAgreedThing, IsMet}
 use Rattle.uf_light.proofs.Agreed.{child-among, own-among}
-use Rattle.uf_light.proofs.Holding.{Among, append, finds-loss, loss-among}
-use Rattle.uf_light.proofs.Finding.{at-on}
+use Rattle.uf_light.proofs.Holding.{Among, append, loss-back}
+use Rattle.uf_light.proofs.Finding.{at-on, way-on}
 use Rattle.uf_light.proofs.Going.{gathered-more, gathered-none}
 use Rattle.uf_light.proofs.Rooting.{found-among}
 use Rattle.uf_light.proofs.Seeing.{file-tree}
@@ -52,8 +52,10 @@ module _ (X : List ℕ → List ℕ) (N : List ℕ → ℕ) (p : Profile) where
       by None is = tt
       by (Some t) is = each t P (child-among X N p es name t is P h)
 
-  pub member-among : (name : List ℕ) (es : Entries) → Among (member_needs X N p name es) (blocks X N p (Dir es))
-  member-among name es P h = append P _ _ (own-trail name es P h) (below (root_of X N p) root-of-among name es P h)
+  pub way-among : (names : List (List ℕ)) (t : Tree) → Among (way X N p names t) (blocks X N p t)
+  way-among [] t P h = root-of-among t P h
+  way-among (name ∷ names) (File m bytes) P h = root-of-among (File m bytes) P h
+  way-among (name ∷ names) (Dir es) P h = append P _ _ (own-trail name es P h) (below (way X N p names) (way-among names) name es P h)
 
   pub trails-among : (names : List (List ℕ)) (t : Tree) → Among (trails X N p names t) (blocks X N p t)
   trails-among [] t P h = tt
@@ -79,16 +81,6 @@ module _ (X : List ℕ → List ℕ) (N : List ℕ → ℕ) (p : Profile) where
     pub trail-gathered : (l : List Held) (found cids cids_now : List Cid) → FindsOver told l (cids_of l) (Ok found) → cids_now ≡ cids ++ found → Gathered told l cids cids_now
     trail-gathered l found cids cids_now h added = record { added = added ∙ ap (λ (k : List Cid). cids ++ k) h.0; held = h.1 }
 
-    -- or one of them is lost
-    pub trail-lost : (name : List ℕ) (es : Entries) (t : Tree) (f : StoreFault) → t ≡ Dir es
-        → FindsOver told (trail X N p (own_meta es) (named_entries X N p es) name) (cids_of (trail X N p (own_meta es) (named_entries X N p es) name)) (Err f) → IsLossOf told (blocks X N p t) f
-    trail-lost name es t f is h =
-        subst (λ (t : Tree). IsLossOf told (blocks X N p t) f) (sym is)
-        (loss-among told _ _ f (own-trail name es) (finds-loss told (trail X N p (own_meta es) (named_entries X N p es) name) (cids_of (trail X N p (own_meta es) (named_entries X N p es) name)) f h))
-
-    pub member-lost : (name : List ℕ) (es : Entries) (t : Tree) (f : StoreFault) → t ≡ Dir es → IsLossOf told (member_needs X N p name es) f → IsLossOf told (blocks X N p t) f
-    member-lost name es t f is h = subst (λ (t : Tree). IsLossOf told (blocks X N p t) f) (sym is) (loss-among told _ _ f (member-among name es) h)
-
     -- nothing is there
     pub gather-none : (led : ℕ) (name : List ℕ) (more names : List (List ℕ)) (t : Tree) (es : Entries) (cids cids_now : List Cid) → name ∷ more ≡ names → t ≡ Dir es → child name es ≡ None
         → Gathered told (trail X N p (own_meta es) (named_entries X N p es) name) cids cids_now → Gathered told (trails X N p names t) cids cids_now
@@ -111,7 +103,7 @@ module _ (X : List ℕ → List ℕ) (N : List ℕ → ℕ) (p : Profile) where
           subst (λ (o : Option Tree). Gathered told (trail X N p (own_meta es) (named_entries X N p es) name ++ elim o as (λ o. List Held) [ None ↦ [] | Some t ↦ trails X N p more t ]) cids cids_now) (sym there)
               (gathered-more told (trail X N p (own_meta es) (named_entries X N p es) name) (trails X N p more u) cids cids_mid cids_now first h.1),
         )
-        by (Err f) h = loss-among told (blocks X N p u) (blocks X N p (Dir es)) f (child-among X N p es name u there) h
+        by (Err f) h = subst (λ (l : List Held). IsLossOf told l f) (sym (way-on X N p told name more es u there)) (loss-back told (trail X N p (own_meta es) (named_entries X N p es) name) (way X N p more u) f h)
 
   -- ---- what is at a path is among the blocks of the tree
 

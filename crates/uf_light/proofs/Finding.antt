@@ -123,7 +123,7 @@ module _ (X : List ℕ → List ℕ) (N : List ℕ → ℕ) (p : Profile) where
     pub at-on : (led : ℕ) (name : List ℕ) (more : List (List ℕ)) (es : Entries) (u : Tree) → child name es ≡ Some u → at led (name ∷ more) (Dir es) ≡ at (led + 1) more u
     at-on led name more es u is = ap (λ (o : Option Tree). elim o as (λ o. Result Tree Refused) [ None ↦ Err (why.NotFound (led + 1)) | Some t ↦ at (led + 1) more t ]) is
 
-    way-on : (name : List ℕ) (more : List (List ℕ)) (es : Entries) (u : Tree) → child name es ≡ Some u → way X N p (name ∷ more) (Dir es) ≡ trail X N p (own_meta es) (named_entries X N p es) name ++ way X N p more u
+    pub way-on : (name : List ℕ) (more : List (List ℕ)) (es : Entries) (u : Tree) → child name es ≡ Some u → way X N p (name ∷ more) (Dir es) ≡ trail X N p (own_meta es) (named_entries X N p es) name ++ way X N p more u
     way-on name more es u is = ap (λ (o : Option Tree). trail X N p (own_meta es) (named_entries X N p es) name ++ elim o as (λ o. List Held) [ None ↦ [] | Some t ↦ way X N p more t ]) is
 
     pub look-on : (led : ℕ) (name : List ℕ) (more names : List (List ℕ)) (es : Entries) (t u : Tree) (r : Result PathEnd StoreFault) → name ∷ more ≡ names → t ≡ Dir es → child name es ≡ Some u

@@ -1,8 +1,8 @@
 -- How the blocks of a file are gone through.
-use Rattle.std.proofs.Common.{◌≡◌, ℕ, zero, suc, ◌+◌, ◌-◌, ◌<◌, ◌≤◌, List, [], ◌∷◌, ◌++◌, length, map, drop, get_or, refl, ap, arith, sym, ◌∙◌, subst, append_assoc, append-nil, None, Some, Result, Ok, Err, inl, inr, IsTrue}
+use Rattle.std.proofs.Common.{◌≡◌, ℕ, zero, suc, ◌+◌, ◌-◌, ◌<◌, ◌≤◌, List, [], ◌∷◌, ◌++◌, length, length-append, map, drop, get_or, refl, ap, arith, sym, ◌∙◌, subst, append_assoc, append-nil, None, Some, Result, Ok, Err, inl, inr, IsTrue}
 use Rattle.std.specs.Prelude.{IfSome}
 use Rattle.std.specs.List.{AllByRecursion, flat_map}
-use Rattle.std.proofs.lemmas.List.{drop_all, drop_more, map-append}
+use Rattle.std.proofs.lemmas.List.{drop_all, drop_more, length-map, map-append}
 use Rattle.uf_cid.specs.Blocks.{Held}
 use Rattle.uf_cid.specs.declared.bytes.StrictFault.{StrictFault}
 use Rattle.uf_cid.specs.declared.cid.Cid.{Cid}
@@ -241,6 +241,15 @@ module _ (X : List ℕ → List ℕ) (good : IsHash X) (p : Profile) where
   no-todo [] e = refl
   no-todo (t ∷ todo) e = absurd (let no : [] ≡ cid_of X p t ∷ map (cid_of X p) todo = e in cc)
 
+  -- no more were gone through than there are
+  pub no-more : (told : Told) (whole : List Held) (cids due : List Cid) → Gone X p told whole cids due → length cids ≤ length whole
+  no-more told whole cids due g =
+      let all = ap length g.whole_is in
+      let parts = length-append g.done (flat_map (blocks X p) g.todo) in
+      let got = ap length g.gathered.added in
+      let each = length-map g.done (λ (b : Held). b.0) in
+      omega (arith, all, parts, got, each)
+
   -- nothing is due
   pub ends : (told : Told) (whole : List Held) (cids due : List Cid) → Gone X p told whole cids due → due ≡ [] → FindsOver told whole (cids_of whole) (Ok cids)
   ends told whole cids due g empty =
@@ -336,6 +345,15 @@ module _ (X : List ℕ → List ℕ) (good : IsHash X) (p : Profile) where
       due_is = put ∙ ap (λ (l : List Part). cids_in l ++ due) found.0 ∙ (λ i. todo-cids n.height n.bytes i ++ n.due_is i) ∙ sym (map-append (cid_of X p) (todos n.height n.bytes) n.todo);
       parts = all-append (todos n.height n.bytes) n.todo (due-below n.meta n.height n.bytes cid n.is) n.parts;
     }
+
+    -- fewer were gone through than there are
+    pub one-more : length cids + 1 ≤ length whole
+    one-more =
+        let all = ap length whole-split in
+        let parts = length-append n.done (own ∷ rest) in
+        let got = ap length n.gathered.added in
+        let each = length-map n.done (λ (b : Held). b.0) in
+        omega (arith, all, parts, got, each)
 
     -- or its own block is lost
     pub stops : (fault : StoreFault) → FindsOver told (own ∷ []) (below X p n.height n.bytes) (Err fault) → FindsOver told whole (cids_of whole) (Err fault)

@@ -1,5 +1,6 @@
 -- What a check answers of a CAR that was read.
 use Rattle.std.proofs.Common.{◌≡◌, ◌⊎◌, ℕ, ◌-◌, ◌<◌, ◌^◌, List, arith, sym, ap, subst, ◌∙◌, Some, None, Result, Ok, Err, inl, inr}
+use Rattle.std.specs.List.{AllByRecursion}
 use Rattle.std.specs.Prelude.{IfSome}
 use Rattle.uf_car.specs.Importing.{with_saves}
 use Rattle.uf_car.specs.Reading.{Read}
@@ -90,13 +91,17 @@ module _ (X : List ℕ → List ℕ) (N : List ℕ → ℕ) where
     told-is : mid.told ≡ sections_told r.sections
     told-is = opens.says.1
 
+    -- each section has its CID's digest
+    pub digested : AllByRecursion (λ (b : Held). X b.1 ≡ b.0.digest) r.sections
+    digested = digests-all X start.told mid.told empty saves r.sections (told-is ∙ sym (ap (changed (with_saves r.sections)) empty))
+
     fresh : mid.faults ≡ 0
     fresh = calm.faults ∙ ap (λ (s : Seen). s.faults) new
 
     module _ (p : Profile) (t : Tree) (is : IsTreeAt X N p root t) (needs : List Held) (said : Result (List ℕ) LightFault) (out out_now : SinkTold) where
       -- the tree's plan and the sections clash, or the store agrees with the plan
       agreed : IsAgreedAt X N mid.told p root t ⊎ ClashesWithPlan X (blocks X N p t) r.sections
-      agreed = by (agree-or-clash X r.sections (blocks X N p t) (digests-all X start.told mid.told empty saves r.sections (told-is ∙ sym (ap (changed (with_saves r.sections)) empty))) (tree-digested X N p t))
+      agreed = by (agree-or-clash X r.sections (blocks X N p t) digested (tree-digested X N p t))
         where
           by : Agrees (sections_told r.sections) (blocks X N p t) ⊎ ClashesWithPlan X (blocks X N p t) r.sections → IsAgreedAt X N mid.told p root t ⊎ ClashesWithPlan X (blocks X N p t) r.sections
           by (inl a) = inl (record { plan = is; agrees = subst (λ (told : Told). Agrees told (blocks X N p t)) (sym told-is) a })

@@ -3,8 +3,10 @@ pub mod Accepting
 pub mod Again
 pub mod Agreed
 pub mod Agreeing
+pub mod Below
 pub mod Blaming
 pub mod Collecting
+pub mod Counting
 pub mod Equal
 pub mod Files
 pub mod First
@@ -14,6 +16,7 @@ pub mod Going
 pub mod Holding
 pub mod Judging
 pub mod Keys
+pub mod Needed
 pub mod Once
 pub mod Opened
 pub mod Plainly

@@ -1,5 +1,5 @@
 -- What `prove` finds and writes.
-use Rattle.std.proofs.Common.{◌≡◌, ℕ, List, [], ◌∷◌, ◌++◌, fold, refl, ap, arith, sym, ◌∙◌, subst, Bool, Option, Some, None, Result, Ok, Err}
+use Rattle.std.proofs.Common.{◌≡◌, ℕ, ◌+◌, ◌≤◌, List, [], ◌∷◌, ◌++◌, fold, length, refl, ap, arith, sym, ◌∙◌, subst, Bool, Option, Some, None, Result, Ok, Err}
 use Rattle.std.specs.Prelude.{IsOk}
 use Rattle.std.specs.List.{AllByRecursion}
 use Rattle.std.proofs.lemmas.List.Elements.{All-contains, All-from_recursion}
@@ -24,25 +24,26 @@ use Rattle.uf_tree.specs.declared.profile.Profile.{Profile}
 use Rattle.uf_tree.specs.FilePlan.{file_plan}
 use Rattle.uf_tree.specs.FileSub.{whole_blocks}
 use Rattle.uf_tree.specs.Tree.{Tree, File}
-use Rattle.uf_tree.specs.TreePlan.{entry}
-use Rattle.uf_tree.specs.TreePlan as plans
+use Rattle.uf_tree.specs.Validity.{IsHash}
 use Rattle.uf_plain.specs.declared.rule.Refused.{Refused}
 use Rattle.uf_plain.specs.Edits.{at}
-use Rattle.uf_plain.specs.Needs.{root_of}
+use Rattle.uf_plain.specs.Needs.{root_of, way}
 use Rattle.uf_light.specs.declared.fault.LightFault.{LightFault}
 use Rattle.uf_light.specs.declared.fault.LightFault.TheVariants as fault
 use Rattle.uf_light.specs.Answers.{Proves, light_fault}
 use Rattle.uf_light.specs.FileCids.{cids_of}
 use Rattle.uf_light.specs.Gathered.{AddsBlocks, Gathered}
 use Rattle.uf_light.specs.Light.{HasHeight, block_once, cid_once, file_blocks, light_order, light_says, light_text, trails}
+use Rattle.uf_light.specs.Needs.{proof_needs, shown_blocks}
 use Rattle.uf_light.specs.Proving.{FindsLight, FindsOrder}
 use Rattle.uf_light.specs.Standing.{IsAgreedAt}
 use Rattle.uf_light.specs.Writing.{AreThere, WritesCar}
 use Rattle.uf_light.proofs.Wanting.{IsFileWanted, IsWanted}
 use Rattle.uf_light.proofs.Files as files
-use Rattle.uf_light.proofs.Collecting.{at-among, root-of-among}
+use Rattle.uf_light.proofs.Counting.{shown-is}
+use Rattle.uf_light.proofs.Finding.{root-loss-way}
 use Rattle.uf_light.proofs.Going.{gathered-more}
-use Rattle.uf_light.proofs.Holding.{Among, loss-among}
+use Rattle.uf_light.proofs.Holding.{loss-back, loss-front}
 use Rattle.uf_light.proofs.Once.{once-among, once-cids, text-is}
 
 -- ---- the blocks of the file at the end
@@ -71,30 +72,43 @@ module _ (X : List ℕ → List ℕ) (N : List ℕ → ℕ) (told : Told) (p : P
   wanted-something w None f = subst IsOk (sym f.says) refl
   wanted-something w (Some e) f = subst IsOk (sym f.says) refl
 
+  -- no more touches than there are blocks of that file
+  pub add-few : (w : Result Tree Refused) (o : Option Entry) (was now : ℕ) → IsWanted X N told p names absent w o → HasHeight p height w
+      → (o ≡ None → now ≡ was)
+      → ((e : Entry) (m : Meta) (bytes : List ℕ) → o ≡ Some e → IsFile X p m bytes e.cid height → Agrees told (file_plan X p m bytes).blocks → now ≤ was + length (whole_blocks X p.chunk p.width m height bytes))
+      → now ≤ was + length (shown_blocks X N p height absent w)
+  add-few w None was now f tall none some = let same = none refl in omega (arith, same)
+  add-few w (Some e) was now f tall none some =
+      let one =
+      some e f.meta f.bytes refl (files.is-file X N p e.cid f.meta f.bytes f.agreed.plan height (subst (HasHeight p height) f.is tall)) (files.plan-agrees X N p e.cid f.meta f.bytes f.agreed.plan told f.agreed.agrees) in
+      let all = ap length (file-at f.meta f.bytes w f.is) in
+      let shown = ap length (shown-is X N p names height absent w (wanted-something w (Some e) f)) in
+      omega (arith, one, all, shown)
+
   module _ (t : Tree) where
     abbrev w : Result Tree Refused
     w = at 0 names t
 
-    pub root-lost : (f : StoreFault) → IsLossOf told (root_of X N p t) f → IsLossOf told (plans.blocks X N p t) f
-    root-lost f h = loss-among told _ _ f (root-of-among X N p t) h
+    -- the root block is on the way
+    pub root-lost : IsHash X → (f : StoreFault) → IsLossOf told (root_of X N p t) f → IsLossOf told (proof_needs X N p height absent names t) f
+    root-lost hash f h = loss-front told (way X N p names t) _ f (root-loss-way X N p hash told names t f h)
 
-    -- the blocks of a file are among those of the tree
-    pub file-among : (o : Option Entry) → IsWanted X N told p names absent w o → HasHeight p height w → Among (file_blocks X N p height w) (plans.blocks X N p t)
-    file-among None f tall P h = subst (AllByRecursion P) (sym (f.no_file height)) tt
-    file-among (Some e) f tall P h =
-        subst (AllByRecursion P) (sym (file-at f.meta f.bytes w f.is))
-        (files.down-among X N p e.cid f.meta f.bytes f.agreed.plan height (subst (HasHeight p height) f.is tall) P (at-among X N p 0 names t (File f.meta f.bytes) f.is P h))
+    -- a block of the way is lost
+    pub way-lost : (f : StoreFault) → IsLossOf told (way X N p names t) f → IsLossOf told (proof_needs X N p height absent names t) f
+    way-lost f h = loss-front told (way X N p names t) _ f h
 
-    pub file-lost : (o : Option Entry) (cids cids_now : List Cid) (f : LightFault) → Among (file_blocks X N p height w) (plans.blocks X N p t) → AddsBlocks told (file_blocks X N p height w) cids cids_now (Err f)
-        → FindsLight told (plans.blocks X N p t) (light_order X N p height names t) (light_says absent names w) (Err f)
-    file-lost o cids cids_now (fault.Store g) among h = loss-among told _ _ g among h
-    file-lost o cids cids_now (fault.NotFound k) among h = absurd h
-    file-lost o cids cids_now (fault.NotADirectory k) among h = absurd h
-    file-lost o cids cids_now fault.IsADirectory among h = absurd h
-    file-lost o cids cids_now fault.Exists among h = absurd h
-    file-lost o cids cids_now (fault.OtherRoot c) among h = absurd h
-    file-lost o cids cids_now (fault.Car g) among h = absurd h
-    file-lost o cids cids_now fault.Sink among h = absurd h
+    -- or one of the file that is to be shown
+    pub file-lost : (o : Option Entry) (cids cids_now : List Cid) (f : LightFault) → IsWanted X N told p names absent w o → AddsBlocks told (file_blocks X N p height w) cids cids_now (Err f)
+        → FindsLight told (proof_needs X N p height absent names t) (light_order X N p height names t) (light_says absent names w) (Err f)
+    file-lost o cids cids_now (fault.Store g) f h =
+        loss-back told (way X N p names t) _ g (subst (λ (l : List Held). IsLossOf told l g) (shown-is X N p names height absent w (wanted-something w o f)) h)
+    file-lost o cids cids_now (fault.NotFound k) f h = absurd h
+    file-lost o cids cids_now (fault.NotADirectory k) f h = absurd h
+    file-lost o cids cids_now fault.IsADirectory f h = absurd h
+    file-lost o cids cids_now fault.Exists f h = absurd h
+    file-lost o cids cids_now (fault.OtherRoot c) f h = absurd h
+    file-lost o cids cids_now (fault.Car g) f h = absurd h
+    file-lost o cids cids_now fault.Sink f h = absurd h
 
     holds-once : (told : Told) (l : List Held) → Holds told l → Holds told (fold block_once [] l)
     holds-once None l h = tt

@@ -1,5 +1,5 @@
 -- What calls find, gather and write over a store that agrees with the blocks of a tree or of a file.
-use Rattle.std.specs.Prelude.{◌≡◌, ◌⊎◌, ◌-◌, ◌<◌, ◌^◌, ℕ, List, [], ◌∷◌, Bool, Some, None}
+use Rattle.std.specs.Prelude.{◌≡◌, ◌⊎◌, ◌+◌, ◌-◌, ◌<◌, ◌≤◌, ◌^◌, ℕ, List, [], ◌∷◌, length, Bool, Some, None}
 use Rattle.std.specs.declared.option.Option.{Option}
 use Rattle.std.specs.declared.result.Result.{Result}
 use Rattle.uf_car.specs.Reading.{car_read}
@@ -28,6 +28,7 @@ use Rattle.uf_light.specs.Answers.{Accepts, ClashesWithPlan, Proves, file_needs}
 use Rattle.uf_light.specs.FileCids.{below, cids_of}
 use Rattle.uf_light.specs.Gathered.{AddsBlocks, Gathers, GathersMember}
 use Rattle.uf_light.specs.Light.{HasHeight, light_order, light_says, light_text, proof_of, said_bytes}
+use Rattle.uf_light.specs.Needs.{finding_touches, proof_needs, proof_touches}
 use Rattle.uf_light.specs.Proving.{FindsLight}
 use Rattle.uf_light.specs.Sections.{AnswersTree}
 use Rattle.uf_light.specs.Sending.{ComesFirst, SendsFile}
@@ -97,21 +98,33 @@ module _ (X : List ℕ → List ℕ) (N : List ℕ → ℕ) (root : Cid) (names 
   abbrev pub RefusesPathFirst : Seen → Seen → Result ℕ LightFault → SinkTold → SinkTold → Type 0
   RefusesPathFirst before now answer out out_now = OfPath before now (λ p t height. ComesFirst answer out out_now)
 
-  -- the proof of the path is written, or the tree's refusal is answered, or one of its blocks is lost
+  -- the proof of the path is written, or the tree's refusal is answered, or one of the blocks that it needs is lost
   abbrev pub ProvesPath : Bool → Seen → Seen → Result ℕ LightFault → SinkTold → SinkTold → Type 0
   ProvesPath absent before now answer out out_now = OfPath before now (λ p t height.
-      Proves before.told (blocks X N p t) (light_text X N p height names t) (light_says absent names (at 0 names t))
-      answer out out_now)
+      Proves before.told (proof_needs X N p height absent names t) (light_text X N p height names t)
+      (light_says absent names (at 0 names t)) answer out out_now)
 
   -- whatever fails, a prefix of the proof was written and nothing else; where the tree refuses, nothing
   abbrev pub WritesPrefixOfProof : Bool → Seen → SinkTold → SinkTold → Type 0
   WritesPrefixOfProof absent before out out_now = OfCountedPath before (λ p t height. AppendsPrefix
       (proof_of (light_says absent names (at 0 names t)) (light_text X N p height names t)) out out_now)
 
-  -- the CIDs of the proof's blocks are found, or the tree's refusal is answered, or one of its blocks is lost
+  -- the CIDs of the proof's blocks are found, or the tree's refusal is answered, or one of the blocks that it needs is
+  -- lost
   abbrev pub FindsProof : Bool → Seen → Seen → Result (List Cid) LightFault → Type 0
-  FindsProof absent before now answer = OfPath before now (λ p t height. FindsLight before.told (blocks X N p t)
-      (light_order X N p height names t) (light_says absent names (at 0 names t)) answer)
+  FindsProof absent before now answer = OfPath before now (λ p t height.
+      FindsLight before.told (proof_needs X N p height absent names t) (light_order X N p height names t)
+      (light_says absent names (at 0 names t)) answer)
+
+  -- so many touches are enough to find these blocks, also where the tree refuses or one of them is lost
+  abbrev pub TouchesFinding : Bool → Seen → Seen → ℕ → ℕ → Type 0
+  TouchesFinding absent before now was is = OfPath before now (λ p t height.
+      is ≤ was + finding_touches X N p height absent names t)
+
+  -- so many touches are enough to make the proof, also where the tree refuses or a block that it needs is lost
+  abbrev pub TouchesProof : Bool → Seen → Seen → ℕ → ℕ → Type 0
+  TouchesProof absent before now was is = OfPath before now (λ p t height.
+      is ≤ was + proof_touches X N p height absent names t)
 
 module _ (X : List ℕ → List ℕ) (N : List ℕ → ℕ) (asked : Asked) (limit : ℕ) (left : SourceTold) where
   -- this is said of the sections of a source's bytes as a CAR, of each tree with the root that is asked for, and of the
@@ -164,6 +177,11 @@ module _ (X : List ℕ → List ℕ) (cid : Cid) where
       → FindsOver before.told (whole_blocks X p.chunk p.width m height bytes)
       (cids_of (whole_blocks X p.chunk p.width m height bytes)) answer)
 
+  -- it takes no more touches than the file has blocks
+  abbrev pub TouchesFile : Seen → Seen → ℕ → ℕ → Type 0
+  TouchesFile before now was is = OfAgreedFile before (λ p m bytes height. Stood before.faults now.faults
+      → is ≤ was + length (whole_blocks X p.chunk p.width m height bytes))
+
   -- the parts right below a block of a file are found, or it is lost
   abbrev pub FindsPartsBelow : Seen → Seen → Result (List Part) StoreFault → Type 0
   FindsPartsBelow before now answer = (p : Profile) (m : Meta) (k : ℕ) (bytes : List ℕ)
@@ -179,3 +197,7 @@ AddsFileCids X file cids cids_now before now answer =
     → IsFile X p m bytes e.cid height → Agrees before.told (file_plan X p m bytes).blocks
     → Stood before.faults now.faults
     → AddsBlocks before.told (whole_blocks X p.chunk p.width m height bytes) cids cids_now answer
+
+-- where there is a file, it takes no more touches than that has blocks
+abbrev pub TouchesFileCids : (List ℕ → List ℕ) → Option Entry → Seen → Seen → ℕ → ℕ → Type 0
+TouchesFileCids X file before now was is = (e : Entry) → file ≡ Some e → TouchesFile X e.cid before now was is

@@ -12,9 +12,9 @@ use Rattle.uf_store.specs.declared.store.StoreFault.{StoreFault}
 use Rattle.uf_tree.specs.declared.profile.Profile.{Profile}
 use Rattle.uf_tree.specs.DirPlan.{trail}
 use Rattle.uf_tree.specs.Tree.{Tree, Entries, own_meta}
-use Rattle.uf_tree.specs.TreePlan.{blocks, named_entries}
+use Rattle.uf_tree.specs.TreePlan.{named_entries}
 use Rattle.uf_plain.specs.Edits.{child}
-use Rattle.uf_plain.specs.Needs.{member_needs}
+use Rattle.uf_plain.specs.Needs.{member_needs, way}
 use Rattle.uf_plain.specs.declared.rule.Refused.{Refused}
 use Rattle.uf_light.specs.declared.fault.LightFault.{LightFault}
 use Rattle.uf_light.specs.declared.fault.LightFault.TheVariants as fault
@@ -29,13 +29,13 @@ pub record Gathered (told : Told) (l : List Held) (cids cids_now : List Cid) : T
   pub added : cids_now ≡ cids ++ cids_of l
   pub held : Holds told l
 
--- the CIDs of the blocks that decide the names were gathered, and what the names lead to is so; or a block of the tree
--- is lost
+-- the CIDs of the blocks that decide the names were gathered, and what the names lead to is so; or a block of the way is
+-- lost
 module _ (X : List ℕ → List ℕ) (N : List ℕ → ℕ) (told : Told) (p : Profile) where
   abbrev pub Gathers : List (List ℕ) → Tree → Result Tree Refused → List Cid → List Cid → Result PathEnd StoreFault
       → Type 0
   Gathers names t w cids cids_now (Ok met) = IsMet X N told p w met × Gathered told (trails X N p names t) cids cids_now
-  Gathers names t w cids cids_now (Err fault) = IsLossOf told (blocks X N p t) fault
+  Gathers names t w cids cids_now (Err fault) = IsLossOf told (way X N p names t) fault
 
   -- the same of one name in a directory of these entries: what is under it, and the CIDs of the blocks that decide it
   abbrev pub GathersMember : List ℕ → Entries → List Cid → List Cid → Result (Option TypedEntry) StoreFault → Type 0

@@ -2,11 +2,13 @@ pub mod Accepting
 pub mod Along
 pub mod Answers
 pub mod Bad
+pub mod Below
 pub mod Checking
 pub mod FileCids
 pub mod Gathered
 pub mod Light
 pub mod Met
+pub mod Needs
 pub mod Opening
 pub mod Proving
 pub mod Sections

@@ -18,9 +18,9 @@ pub record FindsOrder (told : Told) (blocks : List Held) (said : Result (List �
   pub order_is : order ≡ cids_of blocks
   pub held : Holds told blocks
 
--- the blocks of a proof, or the refusal of the plain tree, or one of the tree's blocks is lost
-abbrev pub FindsLight : Told → (plan blocks : List Held) → Result (List ℕ) LightFault → Result (List Cid) LightFault
+-- the blocks of a proof, or the refusal of the plain tree, or one of the blocks that are needed is lost
+abbrev pub FindsLight : Told → (needs blocks : List Held) → Result (List ℕ) LightFault → Result (List Cid) LightFault
     → Type 0
-FindsLight told plan blocks said (Ok order) = FindsOrder told blocks said order
-FindsLight told plan blocks said (Err (fault.Store f)) = IsLossOf told plan f
-FindsLight told plan blocks said (Err f) = said ≡ Err f
+FindsLight told needs blocks said (Ok order) = FindsOrder told blocks said order
+FindsLight told needs blocks said (Err (fault.Store f)) = IsLossOf told needs f
+FindsLight told needs blocks said (Err f) = said ≡ Err f

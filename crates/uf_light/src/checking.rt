@@ -1,11 +1,13 @@
 //! Light proofs checked.
-ghost use Rattle.std.specs.Prelude.{◌≡◌, ◌<◌, ◌≤◌, ◌^◌, IfErr, List, Some, ℕ, length};
+ghost use Rattle.std.specs.Prelude.{◌≡◌, ◌<◌, ◌≤◌, ◌^◌, IfErr, IfOk, List, Some, ℕ, length, true};
 ghost use Rattle.uf_edge.specs.Counts.{Counts, Stood};
-ghost use Rattle.uf_car.specs.Exporting.{WritesSome};
+ghost use Rattle.uf_car.specs.Exporting.{WritesAll, WritesSome};
 ghost use Rattle.uf_car.specs.Reading.{car_read};
 ghost use Rattle.uf_light.specs.Accepting.{IsProof};
 ghost use Rattle.uf_light.specs.Answers.{CountsSink, IsOwnFault, OpensAs, is_light_read, is_light_sink, opened};
+ghost use Rattle.uf_light.specs.Below.{IsAboveNames};
 ghost use Rattle.uf_light.specs.Checking.{keeping_fault as fault_of_keeping, reading_fault as fault_of_reading};
+ghost use Rattle.uf_light.specs.Light.{absent_text};
 ghost use Rattle.uf_light.specs.Sections.{IsOkOrMemory, ShownBySections};
 ghost use Rattle.uf_light.specs.Along.{ChecksFirst, ChecksPath, ChecksPrefix};
 
@@ -55,6 +57,16 @@ pub fn check<X: BlockHash, N: NameHash, I: Source, O: Sink, L: Ledger>(
     // was.
     ensures first { ChecksFirst X.block32 N.name64 asked.now limit (I.left input.old) result (O.holds out.old)
         (O.holds out.new) }
+
+    // Whatever the root is of: with names below it, it is that of a directory, and so are its sections, unless two
+    // blocks clash.
+    ensures root { (bytes : List ℕ) → I.left input.old ≡ Some bytes
+        → IfOk result (λ _. IsAboveNames X.block32 asked.now.root asked.now.names
+        (car_read X.block32 limit bytes).sections) }
+
+    // With `absent` the line was written and nothing else.
+    ensures line { asked.now.absent ≡ true
+        → IfOk result (λ n. WritesAll (absent_text asked.now.names) n (O.holds out.old) (O.holds out.new)) }
 
     // Whatever the CAR has: each fault of the store that it is read into is shown by its sections.
     ensures shown { (bytes : List ℕ) → I.left input.old ≡ Some bytes

@@ -1,5 +1,5 @@
 //! The CIDs of the blocks that decide a path.
-ghost use Rattle.std.specs.Prelude.{◌≡◌, ◌+◌, ◌<◌, ◌^◌, ◌++◌, IfOk, IfSome, length, OnOk};
+ghost use Rattle.std.specs.Prelude.{◌≡◌, ◌+◌, ◌*◌, ◌<◌, ◌≤◌, ◌^◌, ◌++◌, IfOk, IfSome, length, OnOk};
 ghost use Rattle.uf_store.specs.Calls.{OnlyReads};
 ghost use Rattle.uf_store.specs.Faults.{fault_in};
 ghost use Rattle.uf_light.specs.Bad.{IsBadOnPath, IsBadUnder, IsRequired};
@@ -34,6 +34,7 @@ pub fn gather<S: Store, N: NameHash, L: Ledger>(
     ensures reads { OnlyReads S.X.block32 (IsBadUnder S.X.block32 N.name64 thing) (fault_in result)
         (S.seen store.old) (S.seen store.new) }
     ensures touched { CountsUp (fault_in result) touches.old touches.new }
+    ensures few { touches.new ≤ touches.old + 9 * length names.now }
 {
     let [name, rest @ ..] = names else {
         return Ok(PathEnd::There(thing));
@@ -62,6 +63,7 @@ fn gather_member<S: Store, N: NameHash, L: Ledger>(
         (S.seen store.old) (S.seen store.new) }
     ensures required { IfOk result (λ found. IfSome found (IsRequired S.X.block32 folder.now.cid)) }
     ensures touched { CountsUp (fault_in result) touches.old touches.new }
+    ensures few { touches.new ≤ touches.old + 9 }
 {
     let traced = trace::<S, N, L>(alloc, store, &folder.cid, name, touches)?;
     append(cids, traced.trail.as_slice())?;

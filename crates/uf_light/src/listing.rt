@@ -1,5 +1,5 @@
 //! The CIDs of a file's blocks.
-ghost use Rattle.std.specs.Prelude.{◌≡◌, ◌<◌, ◌++◌, None, OnOk};
+ghost use Rattle.std.specs.Prelude.{◌≡◌, ◌+◌, ◌++◌, None, OnOk};
 ghost use Rattle.uf_store.specs.Calls.{OnlyReads};
 ghost use Rattle.uf_store.specs.Faults.{Answers, fault_in};
 ghost use Rattle.uf_tree.specs.Codecs.{Reads};
@@ -8,7 +8,7 @@ ghost use Rattle.uf_fileread.specs.Parts.{parts_block};
 ghost use Rattle.uf_fileread.specs.Sending.{LoadsParts, MayStand};
 ghost use Rattle.uf_light.specs.FileCids.{IsBadInSome, cids_in};
 ghost use Rattle.uf_light.specs.Touches.{CountsUp};
-ghost use Rattle.uf_light.specs.Along.{FindsFileCids, FindsPartsBelow};
+ghost use Rattle.uf_light.specs.Along.{FindsFileCids, FindsPartsBelow, TouchesFile};
 
 use crate::due::CidStack;
 use std::alloc::Global;
@@ -31,6 +31,7 @@ pub fn file_cids<S: Store, L: Ledger>(
     ensures reads { OnlyReads S.X.block32 (IsBadInSome (S.seen store.old).told) (fault_in result)
         (S.seen store.old) (S.seen store.new) }
     ensures touched { CountsUp (fault_in result) touches.old touches.new }
+    ensures few { TouchesFile S.X.block32 entry.now.cid (S.seen store.old) (S.seen store.new) touches.old touches.new }
 {
     let mut cids = Cids::new(alloc);
     let mut due = CidStack::new(alloc);
@@ -59,7 +60,7 @@ fn put_parts(due: &mut CidStack, parts: &[Part]) -> Result<(), Memory>
     Ok(())
 }
 
-// The parts right below a block of a file, which is found. A raw block has none.
+// The parts right below a block of a file, which is found. A raw block has none. One touch.
 fn parts_below<S: Store, L: Ledger>(
     alloc: Global,
     store: &mut S,
@@ -69,7 +70,7 @@ fn parts_below<S: Store, L: Ledger>(
     ensures parts { FindsPartsBelow S.X.block32 cid.now (S.seen store.old) (S.seen store.new) result }
     ensures reads { OnlyReads S.X.block32 (IsBadInFile (S.seen store.old).told cid.now) (fault_in result)
         (S.seen store.old) (S.seen store.new) }
-    ensures touched { touches.old < touches.new }
+    ensures touches { touches.new ≡ touches.old + 1 }
 {
     match cid.codec {
         Codec::Raw => {
@@ -83,7 +84,7 @@ fn parts_below<S: Store, L: Ledger>(
     }
 }
 
-// Loads a node of a file.
+// Loads a node of a file. One touch.
 fn load_node<S: Store, L: Ledger>(
     alloc: Global,
     store: &mut S,
@@ -94,7 +95,7 @@ fn load_node<S: Store, L: Ledger>(
     ensures cause { Answers S.X.block32 (IsBadInFile (S.seen store.old).told cid.now) result
         (S.seen store.old) (S.seen store.new) }
     ensures told { (S.seen store.new).told ≡ (S.seen store.old).told }
-    ensures touched { touches.old < touches.new }
+    ensures touches { touches.new ≡ touches.old + 1 }
 {
     need(store, cid, touches)?;
     match read_node(alloc, store.block()) {

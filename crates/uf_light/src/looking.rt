@@ -1,10 +1,11 @@
 //! What a path leads to, looked up from its root.
-ghost use Rattle.std.specs.Prelude.{◌+◌, ◌<◌, ◌^◌, IfOk, IfSome, Ok, length};
+ghost use Rattle.std.specs.Prelude.{◌+◌, ◌<◌, ◌≤◌, ◌^◌, IfOk, IfSome, Ok, length};
 ghost use Rattle.uf_cid.specs.declared.cid.Cid.{Cid as TheCid};
 ghost use Rattle.uf_dir.specs.Bad.{IsBadRoot};
 ghost use Rattle.uf_store.specs.Calls.{OnlyReads};
 ghost use Rattle.uf_store.specs.Faults.{fault_in};
 ghost use Rattle.uf_light.specs.Bad.{IsBadOnPath, IsBadUnder, IsRequired};
+ghost use Rattle.uf_light.specs.Below.{IsSeenAs, MayEnd};
 ghost use Rattle.uf_light.specs.Touches.{CountsUp};
 ghost use Rattle.uf_light.specs.Along.{FindsUnder, FindsMet, LooksOn};
 
@@ -30,6 +31,7 @@ pub fn look<S: Store, N: NameHash, L: Ledger>(
     ensures looks { LooksOn S.X.block32 N.name64 led names.now thing (S.seen store.old) (S.seen store.new) result }
     ensures reads { OnlyReads S.X.block32 (IsBadUnder S.X.block32 N.name64 thing) (fault_in result)
         (S.seen store.old) (S.seen store.new) }
+    ensures ends { IfOk result (MayEnd thing names.now) }
 {
     let [name, rest @ ..] = names else {
         return Ok(PathEnd::There(thing));
@@ -65,7 +67,7 @@ pub fn member<S: Store, N: NameHash, L: Ledger>(
     Ok(Some(thing))
 }
 
-// Whether an entry is a file's or a directory's.
+// Whether an entry is a file's or a directory's. At most one touch.
 pub fn thing_of<S: Store, N: NameHash, L: Ledger>(
     alloc: Global,
     store: &mut S,
@@ -75,7 +77,9 @@ pub fn thing_of<S: Store, N: NameHash, L: Ledger>(
     ensures thing { FindsMet S.X.block32 N.name64 entry.now.cid (S.seen store.old) (S.seen store.new) result }
     ensures reads { OnlyReads S.X.block32 IsBadRoot (fault_in result) (S.seen store.old) (S.seen store.new) }
     ensures required { (root : TheCid) → IfOk result (IsRequired S.X.block32 root) }
+    ensures seen { IfOk result (IsSeenAs S.X.block32 entry.now.cid) }
     ensures touched { CountsUp (fault_in result) touches.old touches.new }
+    ensures few { touches.new ≤ touches.old + 1 }
 {
     let kind = kind_of(alloc, store, entry, touches)?;
     match kind {

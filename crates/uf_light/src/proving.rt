@@ -10,7 +10,8 @@ ghost use Rattle.uf_light.specs.Bad.{IsBadLight};
 ghost use Rattle.uf_light.specs.FileCids.{IsBadInSome};
 ghost use Rattle.uf_light.specs.Sending.{IsNoCar};
 ghost use Rattle.uf_light.specs.Touches.{CountsUp, IsBlaming};
-ghost use Rattle.uf_light.specs.Along.{AddsFileCids, FindsProof, ProvesPath, WritesPrefixOfProof};
+ghost use Rattle.uf_light.specs.Along.{AddsFileCids, FindsProof, ProvesPath, TouchesFileCids, TouchesFinding};
+ghost use Rattle.uf_light.specs.Along.{TouchesProof, WritesPrefixOfProof};
 
 use crate::LightFault;
 use crate::deciding::wanted;
@@ -41,7 +42,8 @@ pub fn prove<S: Store, N: NameHash, O: Sink, L: Ledger>(
 ) -> Result<u64, LightFault>
     requires { length names.now < 2 ^ 32 }
 
-    // Over a store that tells and agrees with the blocks of a tree: the proof, the refusal, or one of them is lost.
+    // Over a store that tells and agrees with the blocks of a tree: the proof, the refusal, or one of those that are
+    // needed is lost, which are the blocks that decide the path and those of the file that is shown.
     ensures proves { ProvesPath S.X.block32 N.name64 root.now.cid names.now absent (S.seen store.old)
         (S.seen store.new) result (O.holds out.old) (O.holds out.new) }
 
@@ -55,6 +57,10 @@ pub fn prove<S: Store, N: NameHash, O: Sink, L: Ledger>(
     ensures told { (S.seen store.new).told ≡ (S.seen store.old).told }
     ensures counts { Counts (is_light_sink result) (O.faults out.old) (O.faults out.new) }
     ensures touched { IsBlaming (light_fault result) → touches.old < touches.new }
+
+    // Where the store doesn't fail so many touches are enough, also where the tree refuses or a block is lost.
+    ensures few { TouchesProof S.X.block32 N.name64 root.now.cid names.now absent (S.seen store.old)
+        (S.seen store.new) touches.old touches.new }
 {
     let order = find_blocks::<S, N, L>(alloc, store, root, names.as_slice(), absent, touches)?;
     write_light(store, &root.cid, &order, out, touches)
@@ -78,6 +84,8 @@ fn find_blocks<S: Store, N: NameHash, L: Ledger>(
     ensures quiet { is_light_sink result ≡ false }
     ensures form { IfErr result IsNoCar }
     ensures touched { CountsUp (light_fault result) touches.old touches.new }
+    ensures most { TouchesFinding S.X.block32 N.name64 root.now.cid names.now absent (S.seen store.old)
+        (S.seen store.new) touches.old touches.new }
 {
     let thing = thing_of::<S, N, L>(alloc, store, root, touches)?;
     let mut cids = Cids::new(alloc);
@@ -103,6 +111,8 @@ fn add_file<S: Store, L: Ledger>(
     ensures quiet { is_light_sink result ≡ false }
     ensures form { IfErr result IsNoCar }
     ensures touched { CountsUp (light_fault result) touches.old touches.new }
+    ensures untouched { file ≡ None → touches.new ≡ touches.old }
+    ensures few { TouchesFileCids S.X.block32 file (S.seen store.old) (S.seen store.new) touches.old touches.new }
 {
     let Some(entry) = file else {
         return Ok(());

@@ -1,9 +1,10 @@
 //! What is at a path, written to a sink.
-ghost use Rattle.std.specs.Prelude.{◌≡◌, ◌<◌, ◌^◌, ◌-◌, IfErr, IfOk, length};
-ghost use Rattle.uf_car.specs.Exporting.{WritesSome};
+ghost use Rattle.std.specs.Prelude.{◌≡◌, ◌<◌, ◌^◌, ◌-◌, IfErr, IfOk, length, true};
+ghost use Rattle.uf_car.specs.Exporting.{WritesAll, WritesSome};
 ghost use Rattle.uf_store.specs.Calls.{OnlyReads};
 ghost use Rattle.uf_light.specs.Answers.{CountsSink, is_light_sink, light_fault};
 ghost use Rattle.uf_light.specs.Bad.{IsBadLight};
+ghost use Rattle.uf_light.specs.Below.{HasNames};
 ghost use Rattle.uf_light.specs.FileCids.{IsBadInSome};
 ghost use Rattle.uf_light.specs.Light.{absent_text};
 ghost use Rattle.uf_light.specs.Sending.{IsNoCar, SendsAbsent};
@@ -47,6 +48,9 @@ pub fn show<S: Store, N: NameHash, O: Sink, L: Ledger>(
         (light_fault result) (S.seen store.old) (S.seen store.new) }
     ensures counts { CountsSink (is_light_sink result) (O.faults out.old) (O.faults out.new) }
     ensures behind { IfErr result IsNoCar }
+    ensures root { IfOk result (λ _. HasNames S.X.block32 root.now names.now) }
+    ensures line { absent ≡ true
+        → IfOk result (λ n. WritesAll (absent_text names.now) n (O.holds out.old) (O.holds out.new)) }
 {
     let entry = Entry {
         cid: *root,

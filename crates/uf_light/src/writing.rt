@@ -1,5 +1,5 @@
 //! A CAR of the blocks of some CIDs, written from a store.
-ghost use Rattle.std.specs.Prelude.{◌≡◌, ◌<◌, ◌≤◌, ◌^◌, IfErr, IfOk, Some, length};
+ghost use Rattle.std.specs.Prelude.{◌≡◌, ◌+◌, ◌<◌, ◌≤◌, ◌^◌, IfErr, IfOk, Some, length};
 ghost use Rattle.uf_edge.specs.Counts.{Counts};
 ghost use Rattle.uf_store.specs.Calls.{OnlyReads};
 ghost use Rattle.uf_store.specs.Faults.{NoneIsBad};
@@ -34,6 +34,7 @@ pub fn write_light<S: Store, O: Sink, L: Ledger>(
     ensures form { IfErr result IsNoCar }
     ensures reads { OnlyReads S.X.block32 NoneIsBad (light_fault result) (S.seen store.old) (S.seen store.new) }
     ensures counts { Counts (is_light_sink result) (O.faults out.old) (O.faults out.new) }
+    ensures few { touches.new ≤ touches.old + length order.now }
 {
     cids_are_whole(root);
     match car_head(root, out) {
@@ -53,7 +54,7 @@ pub fn write_light<S: Store, O: Sink, L: Ledger>(
     Ok(written)
 }
 
-// Loads a block, writes it as a section, and says how many bytes that has.
+// Loads a block, writes it as a section, and says how many bytes that has. One touch.
 fn write_block<S: Store, O: Sink, L: Ledger>(
     store: &mut S,
     cid: &Cid,
@@ -67,6 +68,7 @@ fn write_block<S: Store, O: Sink, L: Ledger>(
     ensures few { IfOk result (λ n. n ≤ 2097198) }
     ensures reads { OnlyReads S.X.block32 NoneIsBad (light_fault result) (S.seen store.old) (S.seen store.new) }
     ensures counts { Counts (is_light_sink result) (O.faults out.old) (O.faults out.new) }
+    ensures touches { touches.new ≡ touches.old + 1 }
 {
     need(store, cid, touches)?;
     let block = store.block();

@@ -1,6 +1,6 @@
 -- What is due, step by step, and what was answered of it.
-use Rattle.std.proofs.Common.{◌≡◌, ℕ, zero, suc, ◌+◌, ◌≤◌, List, [], ◌∷◌, ◌++◌, length, take, drop, Bool, true, false, append-nil, append_assoc, length-append, refl, sym, ap, subst, ◌∙◌, arith, Result, Ok, Err, ◌⊎◌, inl, inr}
-use Rattle.std.specs.Prelude.{Some, None}
+use Rattle.std.proofs.Common.{◌≡◌, ℕ, zero, suc, ◌+◌, ◌≤◌, List, [], ◌∷◌, ◌++◌, length, take, drop, Bool, true, false, append_assoc, length-append, refl, sym, ap, subst, ◌∙◌, arith, Ok, Err, inl, inr}
+use Rattle.std.specs.Prelude.{Some}
 use Rattle.std.proofs.Math.Seq.{take-append-add}
 use Rattle.std.proofs.lemmas.Grind.{flat_map-append}
 use Rattle.std.proofs.lemmas.List.{map-append}
@@ -9,14 +9,14 @@ use Rattle.uf_cid.specs.declared.cid.Cid.{Cid}
 use Rattle.uf_edge.proofs.Appending.{after-after}
 use Rattle.uf_edge.specs.Streams.{AppendsPrefix, after}
 use Rattle.uf_edge.specs.Streams as streams
-use Rattle.uf_store.specs.Contents.{Contents, Told, held_at, with_save, with_sync}
+use Rattle.uf_store.specs.Contents.{Contents, Told, with_save, with_sync}
 use Rattle.uf_walk.specs.Order.{Missing, NotDagPb, OverMost, order}
 use Rattle.uf_pull.specs.declared.fault.PullFault.{PullFault}
 use Rattle.uf_pull.specs.declared.fault.PullFault.TheVariants as fault
-use Rattle.uf_pull.specs.Due.{Answer, Answered, Due, Refused, answer_to, cids_of, closing, due_asked, due_behind, due_by, due_end, due_text, due_within, holding}
+use Rattle.uf_pull.specs.Due.{Due, answer_to, cids_of, closing, due_asked, due_behind, due_by, due_end, due_text, due_within, holding}
 use Rattle.uf_pull.specs.Frames.{Frames, first_place}
-use Rattle.uf_pull.specs.Pulling.{KeepsFront, RefusesBy, with_all}
-use Rattle.uf_pull.specs.Wants.{want_line, wants_text}
+use Rattle.uf_pull.specs.Pulling.{RefusesBy, StopsPull, with_all}
+use Rattle.uf_pull.specs.Wants.{done_line, want_line, wants_text}
 use Rattle.uf_pull.proofs.Leaving.{rest_more}
 use Rattle.uf_pull.proofs.Written.{part-behind}
 
@@ -67,16 +67,29 @@ behind-behind xs ys d = λ i. record {
   used = d.used;
 }
 
-front_kept : (blocks : List Held) (d : Due) (t : Contents) (told_now : Told) → KeepsFront d.blocks (with_all blocks t) told_now → KeepsFront (blocks ++ d.blocks) t told_now
-front_kept blocks d t told_now keeps =
-    let size : length (blocks ++ d.blocks) ≡ length blocks + length d.blocks = length-append blocks d.blocks in
-    let few : keeps.count ≤ length d.blocks = keeps.few in
-    record { count = length blocks + keeps.count; few = omega (arith, size, few); kept = by keeps.kept }
-  where
-    by : (told_now ≡ Some (with_all (take keeps.count d.blocks) (with_all blocks t))) ⊎ (told_now ≡ Some (with_sync (with_all d.blocks (with_all blocks t))))
-        → (told_now ≡ Some (with_all (take (length blocks + keeps.count) (blocks ++ d.blocks)) t)) ⊎ (told_now ≡ Some (with_sync (with_all (blocks ++ d.blocks) t)))
-    by (inl e) = inl (e ∙ ap Some (sym (ap (λ (l : List Held). with_all l t) (take-append-add blocks d.blocks keeps.count) ∙ with_all-append blocks (take keeps.count d.blocks) t)))
-    by (inr e) = inr (e ∙ ap (λ (u : Contents). Some (with_sync u)) (sym (with_all-append blocks d.blocks t)))
+-- it was stopped behind blocks that were asked for and kept
+module _ (rest : Due) (blocks : List Held) (t : Contents) (told_now : Told) (out mid last : streams.Told) (written : mid ≡ after out (wants_text (cids_of blocks))) where
+  wants_behind : after mid (wants_text rest.wants) ≡ after out (wants_text (cids_of blocks ++ rest.wants))
+  wants_behind =
+      ap (λ (o : streams.Told). after o (wants_text rest.wants)) written ∙ after-after out (wants_text (cids_of blocks)) (wants_text rest.wants)
+      ∙ ap (after out) (sym (wants-append (cids_of blocks) rest.wants))
+
+  stops_behind : StopsPull rest (with_all blocks t) told_now mid last → StopsPull (due_behind blocks rest) t told_now out last
+  stops_behind (inl r) =
+      let size : length (blocks ++ rest.blocks) ≡ length blocks + length rest.blocks = length-append blocks rest.blocks in
+      let few : r.count ≤ length rest.blocks = r.few in
+      inl (record {
+        count = length blocks + r.count;
+        few = omega (arith, size, few);
+        kept = r.kept ∙ ap Some (sym (ap (λ (l : List Held). with_all l t) (take-append-add blocks rest.blocks r.count) ∙ with_all-append blocks (take r.count rest.blocks) t));
+        written = subst (λ (x : List ℕ). AppendsPrefix x out last) (sym (wants-append (cids_of blocks) rest.wants)) (part-behind (wants_text (cids_of blocks)) (wants_text rest.wants) out mid last written r.written);
+      })
+  stops_behind (inr r) =
+      inr (record {
+        whole = r.whole;
+        kept = r.kept ∙ ap (λ (u : Contents). Some (with_sync u)) (sym (with_all-append blocks rest.blocks t));
+        written = subst (λ (o : streams.Told). AppendsPrefix done_line o last) wants_behind r.written;
+      })
 
 -- a refusal behind blocks that were asked for and kept, and behind bytes that were used
 pub refuses_behind : (b : Bool) (d rest : Due) (blocks : List Held) (f : PullFault) (place mid_place count : ℕ) (bytes later : List ℕ) (t : Contents) (told_now : Told) (out mid last left_now : streams.Told)
@@ -84,10 +97,7 @@ pub refuses_behind : (b : Bool) (d rest : Due) (blocks : List Held) (f : PullFau
     → RefusesBy b rest f mid_place later (with_all blocks t) told_now mid last left_now → RefusesBy b d f place bytes t told_now out last left_now
 refuses_behind true d rest blocks f place mid_place count bytes later t told_now out mid last left_now is written moved behind r =
     subst (λ (x : Due). RefusesBy true x f place bytes t told_now out last left_now) (sym is)
-    (record {
-      kept = front_kept blocks rest t told_now r.kept;
-      written = subst (λ (x : List ℕ). AppendsPrefix x out last) (sym (text-behind blocks rest)) (part-behind (wants_text (cids_of blocks)) (due_text rest) out mid last written r.written);
-    })
+    (stops_behind rest blocks t told_now out mid last written r)
 refuses_behind false d rest blocks f place mid_place count bytes later t told_now out mid last left_now is written moved behind r =
     subst (λ (x : Due). RefusesBy false x f place bytes t told_now out last left_now) (sym is)
     (record {

@@ -15,7 +15,7 @@ use Rattle.uf_pull.specs.declared.fault.PullFault.{PullFault}
 use Rattle.uf_pull.specs.declared.fault.PullFault.TheVariants as fault
 use Rattle.uf_pull.specs.Due.{Due, cids_of, due, due_behind, due_end, due_text}
 use Rattle.uf_pull.specs.Frames.{frames, frames_from}
-use Rattle.uf_pull.specs.Pulling.{Closes, PullsOn, IsOnCourse, Pulls, RefusesBy, Stand, VisitsCid, due_at, with_all}
+use Rattle.uf_pull.specs.Pulling.{Closes, PullsOn, IsOnCourse, Pulls, RefusesBy, Stand, StopsPull, VisitsCid, due_at, with_all}
 use Rattle.uf_pull.specs.Reading.{stops_pull}
 use Rattle.uf_pull.specs.Wants.{done_line, wants_text}
 use Rattle.uf_pull.specs.Wholes.{AsksForUnheld, holding_all}
@@ -24,7 +24,7 @@ use Rattle.uf_pull.proofs.Dues.{behind-behind, cids-append, due_over, due_whole,
 use Rattle.uf_pull.proofs.Listing.{place_first}
 use Rattle.uf_pull.proofs.Visiting.{stopped_by, stopped_so}
 use Rattle.uf_pull.proofs.WholeLaws.{whole_asks}
-use Rattle.uf_pull.proofs.Written.{after-none, part-behind, part-none}
+use Rattle.uf_pull.proofs.Written.{after-none, part-front, part-none}
 
 -- at first
 pub starts : (hash : List ℕ → List ℕ) (most : ℕ) (root : Cid) (s : Stand) (t : Contents) (bytes : List ℕ) (w : Walked) (told_now : Told) (left_now out out_now : streams.Told)
@@ -141,19 +141,24 @@ module _ (hash : List ℕ → List ℕ) (most : ℕ) (root : Cid) (s : Stand) (t
         → RefusesBy (stops_pull f) (due_at hash most root most t s bytes) f s.place bytes t told2 out out2 left2
     unclosed f told2 out2 left2 stops =
         subst (λ (d : Due). RefusesBy (stops_pull f) d f s.place bytes t told2 out out2 left2) (sym due_is)
-        (stopped_by f _ s.place bytes t told2 out out2 left2 stops.stopped
-        (record {
-          kept = record { count = length (far.blocks ++ []); few = omega arith; kept = by stops.kept };
-          written = subst (λ (x : List ℕ). AppendsPrefix x out out2) (sym text_is) (part-behind (wants_text (cids_of far.blocks)) done_line out out1 out2 far.written stops.written);
-        }))
+        (stopped_by f _ s.place bytes t told2 out out2 left2 stops.stopped (by stops.last))
       where
         all : take (length (far.blocks ++ [])) (far.blocks ++ []) ≡ far.blocks
         all = take_all (length (far.blocks ++ [])) (far.blocks ++ []) (omega arith) ∙ append-nil far.blocks
 
-        by : (told2 ≡ Some (with_all far.blocks t)) ⊎ (told2 ≡ Some (with_sync (with_all far.blocks t)))
-            → (told2 ≡ Some (with_all (take (length (far.blocks ++ [])) (far.blocks ++ [])) t)) ⊎ (told2 ≡ Some (with_sync (with_all (far.blocks ++ []) t)))
-        by (inl e) = inl (e ∙ ap (λ (l : List Held). Some (with_all l t)) (sym all))
-        by (inr e) = inr (e ∙ ap (λ (l : List Held). Some (with_sync (with_all l t))) (sym (append-nil far.blocks)))
+        by : ((told2 ≡ Some (with_all far.blocks t)) × (out2 ≡ out1)) ⊎ ((told2 ≡ Some (with_sync (with_all far.blocks t))) × AppendsPrefix done_line out1 out2)
+            → StopsPull (due_behind far.blocks (due_end (Ok tt) s1.place)) t told2 out out2
+        by (inl last) = inl (record {
+          count = length (far.blocks ++ []);
+          few = omega arith;
+          kept = last.0 ∙ ap (λ (l : List Held). Some (with_all l t)) (sym all);
+          written = subst (λ (x : List ℕ). AppendsPrefix x out out2) (sym (wants-append (cids_of far.blocks) [])) (part-front (wants_text (cids_of far.blocks)) [] out out2 (last.1 ∙ far.written));
+        })
+        by (inr last) = inr (record {
+          whole = refl;
+          kept = last.0 ∙ ap (λ (l : List Held). Some (with_sync (with_all l t))) (sym (append-nil far.blocks));
+          written = subst (λ (o : streams.Told). AppendsPrefix done_line o out2) (far.written ∙ ap (λ (cs : List Cid). after out (wants_text cs)) (sym (append-nil (cids_of far.blocks)))) last.1;
+        })
 
   -- the next CID was handed out and visited
   module _ (c : Cid) (w : Walked) (hands : HandsOut c w1 w) (same : w1.most ≡ most) (few : s1.added ≤ length w1.handed) (none : s.added ≡ 0) where

@@ -1,5 +1,6 @@
 mod Answering
 mod Asking
+mod Closing
 mod Courses
 mod DueLaws
 mod Dues

@@ -1,22 +1,21 @@
 -- What is due at one CID of the walk, and what is done of it.
-use Rattle.std.proofs.Common.{◌≡◌, ℕ, suc, ◌+◌, ◌≤◌, List, [], ◌∷◌, ◌++◌, length, drop, Bool, true, false, append-nil, append_assoc, refl, sym, ap, subst, ◌∙◌, arith, Result, Ok, Err, ◌⊎◌, inl, inr}
+use Rattle.std.proofs.Common.{◌≡◌, ℕ, suc, ◌+◌, List, [], ◌∷◌, ◌++◌, drop, Bool, true, false, append-nil, refl, sym, ap, subst, ◌∙◌, arith, Err, inl}
 use Rattle.std.specs.Prelude.{Some, None}
-use Rattle.uf_cid.specs.Blocks.{Held, Lookup}
+use Rattle.uf_cid.specs.Blocks.{Lookup}
 use Rattle.uf_cid.specs.declared.cid.Cid.{Cid}
 use Rattle.uf_edge.specs.Streams.{AppendsPrefix, after}
 use Rattle.uf_edge.specs.Streams as streams
 use Rattle.uf_store.specs.Contents.{Contents, Told, held_at, with_save}
-use Rattle.uf_walk.specs.Order.{NotDagPb, block_links}
 use Rattle.uf_walk.specs.Turns.{Follows, TakesBlockOf}
 use Rattle.uf_walk.specs.Walked.{Walked}
 use Rattle.uf_walk.specs.declared.turn.WalkFault.{WalkFault}
 use Rattle.uf_walk.specs.declared.turn.WalkFault.TheVariants as walk
 use Rattle.uf_pull.specs.declared.fault.PullFault.{PullFault}
 use Rattle.uf_pull.specs.declared.fault.PullFault.TheVariants as fault
-use Rattle.uf_pull.specs.Due.{Answer, Answered, Due, Refused, answer_to, due_asked, due_behind, due_end, due_text, due_within, holding}
+use Rattle.uf_pull.specs.Due.{Answer, Answered, Due, Refused, answer_to, due_asked, due_behind, due_end, due_within, holding}
 use Rattle.uf_pull.specs.Frames.{Frames, frames_from}
 use Rattle.uf_pull.specs.Pulling.{PullsOn, IsOnCourse, StopsPull, RefusesBy, RefusesSo, Stand, due_at}
-use Rattle.uf_pull.specs.Reading.{RefusesWith, UsesBytes, stops_pull}
+use Rattle.uf_pull.specs.Reading.{RefusesWith, stops_pull}
 use Rattle.uf_pull.specs.Untaken.{unfollowed}
 use Rattle.uf_pull.specs.Wants.{want_line, wants_text}
 use Rattle.uf_pull.proofs.Courses.{held-with, is_missing, is_no_node, kept_on, saved_is_held, took}
@@ -25,21 +24,21 @@ use Rattle.uf_pull.proofs.Listing.{place_first}
 use Rattle.uf_pull.proofs.Written.{after-none, part-front, part-more, part-none}
 
 -- it was stopped before anything was kept
-pub stopped_so : (d : Due) (t : Contents) (told_now : Told) (out out_now : streams.Told) → told_now ≡ Some t → AppendsPrefix (due_text d) out out_now → StopsPull d t told_now out out_now
-stopped_so d t told_now out out_now same written = record { kept = record { count = 0; few = omega arith; kept = inl same }; written = written }
+pub stopped_so : (d : Due) (t : Contents) (told_now : Told) (out out_now : streams.Told) → told_now ≡ Some t → AppendsPrefix (wants_text d.wants) out out_now → StopsPull d t told_now out out_now
+stopped_so d t told_now out out_now same written = inl (record { count = 0; few = omega arith; kept = same; written = written })
 
 pub stopped_by : (f : PullFault) (d : Due) (place : ℕ) (bytes : List ℕ) (t : Contents) (told_now : Told) (out out_now left_now : streams.Told) → stops_pull f ≡ true → StopsPull d t told_now out out_now
     → RefusesBy (stops_pull f) d f place bytes t told_now out out_now left_now
 stopped_by f d place bytes t told_now out out_now left_now e stopped = subst (λ (b : Bool). RefusesBy b d f place bytes t told_now out out_now left_now) (sym e) stopped
 
--- what was asked stands in front of what is due
+-- it is asked for first
 record AsksFirst (c : Cid) (d : Due) : Type 0 where
   tail : List ℕ
-  is : due_text d ≡ want_line c ++ tail
+  is : wants_text d.wants ≡ want_line c ++ tail
 
 asks_first : (c : Cid) (next : List ℕ → ℕ → Frames → Due) (a : Answer) → AsksFirst c (due_asked c next a)
-asks_first c next (Answered block more rest) = record { tail = due_text (next block more rest); is = append_assoc (want_line c) _ _ }
-asks_first c next (Refused f used) = record { tail = []; is = append-nil (want_line c ++ []) }
+asks_first c next (Answered block more rest) = record { tail = wants_text (next block more rest).wants; is = refl }
+asks_first c next (Refused f used) = record { tail = []; is = refl }
 
 -- ---- a block that isn't held
 
@@ -51,7 +50,7 @@ module _ (hash : List ℕ → List ℕ) (root c : Cid) (w : Walked) (t : Content
   first_asks n = subst (AsksFirst c) (sym (asks n)) (asks_first c _ _)
 
   -- the line was written
-  asked_part : (n : ℕ) (given : streams.Told) → AppendsPrefix (due_text (due_at hash w.most root (suc n) t s bytes)) given (after given (want_line c))
+  asked_part : (n : ℕ) (given : streams.Told) → AppendsPrefix (wants_text (due_at hash w.most root (suc n) t s bytes).wants) given (after given (want_line c))
   asked_part n given =
       let first = first_asks n in
       subst (λ (x : List ℕ). AppendsPrefix x given (after given (want_line c))) (sym first.is) (part-front (want_line c) first.tail given _ refl)
@@ -97,10 +96,12 @@ module _ (hash : List ℕ → List ℕ) (root c : Cid) (w : Walked) (t : Content
         → RefusesBy (stops_pull (unfollowed f)) (due_at hash w.most root (suc n) t s bytes) (unfollowed f) s.place bytes t told_now given (after given (want_line c)) left_now
     untaken n walk.Memory w_now told_now given left_now used kept takes left moved behind =
         subst (λ (d : Due). StopsPull d t told_now given (after given (want_line c))) (sym (answered n))
-        (record {
-          kept = record { count = 1; few = omega arith; kept = inl kept };
-          written = subst (λ (d : Due). AppendsPrefix (due_text d) given (after given (want_line c))) (answered n) (asked_part n given);
-        })
+        (inl (record {
+          count = 1;
+          few = omega arith;
+          kept = kept;
+          written = subst (λ (d : Due). AppendsPrefix (wants_text d.wants) given (after given (want_line c))) (answered n) (asked_part n given);
+        }))
     untaken n (walk.NotDagPb d why) w_now told_now given left_now used kept takes left moved behind =
         let no = is_no_node root (held_at (with_save c block t)) w (kept_on root t w c block none on) c due block why (saved_is_held t c block) takes.reads in
         let is : due_at hash w.most root (suc n) t s bytes ≡ due_behind ((c, block) ∷ []) (due_end (Err (fault.NotDagPb c why)) now.place) =

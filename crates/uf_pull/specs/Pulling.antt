@@ -1,15 +1,15 @@
 -- What `pull` and its steps answer and leave.
-use Rattle.std.specs.Prelude.{◌≡◌, ◌⊎◌, ℕ, suc, ◌+◌, ◌≤◌, Bool, true, false, List, [], ◌∷◌, ◌++◌, length, map, take}
+use Rattle.std.specs.Prelude.{◌≡◌, ◌⊎◌, ℕ, suc, ◌+◌, ◌≤◌, Bool, true, false, List, [], ◌∷◌, length, take}
 use Rattle.std.specs.Prelude.{drop, ⊤}
 use Rattle.std.specs.declared.option.Option.{Option}
-use Rattle.std.specs.declared.option.Option.TheVariants.{None, Some}
+use Rattle.std.specs.declared.option.Option.TheVariants.{Some}
 use Rattle.std.specs.declared.result.Result.{Result}
 use Rattle.std.specs.declared.result.Result.TheVariants.{Ok, Err}
 use Rattle.uf_cid.specs.Blocks.{Held, Lookup}
 use Rattle.uf_cid.specs.declared.cid.Cid.{Cid}
 use Rattle.uf_edge.specs.Streams.{AppendsPrefix, after}
 use Rattle.uf_edge.specs.Streams as streams
-use Rattle.uf_store.specs.Contents.{Contents, Told, changed, held_at, with_save, with_sync}
+use Rattle.uf_store.specs.Contents.{Contents, Told, held_at, with_save, with_sync}
 use Rattle.uf_store.specs.Faults.{NoneIsBad, Shown}
 use Rattle.uf_store.specs.Keeping.{KeepsGood}
 use Rattle.uf_store.specs.Seen.{Finds, MissesBlock, Seen}
@@ -79,13 +79,6 @@ pub record IsOnCourse (root : Cid) (held : Lookup) (walk : Walked) : Type 0 wher
 
 -- ---- the answers
 
--- the first n of the blocks were kept, or all of them and then a sync was made
-pub record KeepsFront (blocks : List Held) (t : Contents) (told_now : Told) : Type 0 where
-  pub count : ℕ
-  pub few : count ≤ length blocks
-  pub kept : (told_now ≡ Some (with_all (take count blocks) t))
-      ⊎ (told_now ≡ Some (with_sync (with_all blocks t)))
-
 -- all is there
 pub record Pulled (d : Due) (n : ℕ) (bytes : List ℕ) (t : Contents) (told_now : Told)
     (out out_now left_now : streams.Told) : Type 0 where
@@ -103,10 +96,23 @@ pub record RefusesSo (d : Due) (f : PullFault) (place : ℕ) (bytes : List ℕ) 
   pub written : out_now ≡ after out (due_text d)
   pub rest : LeavesRest f place d.used bytes left_now
 
--- it was stopped
-pub record StopsPull (d : Due) (t : Contents) (told_now : Told) (out out_now : streams.Told) : Type 0 where
-  pub kept : KeepsFront d.blocks t told_now
-  pub written : AppendsPrefix (due_text d) out out_now
+-- it was stopped before the sync: the first n of the blocks were kept, and all that is written is a prefix of the wants
+pub record StopsUnsynced (d : Due) (t : Contents) (told_now : Told) (out out_now : streams.Told) : Type 0 where
+  pub count : ℕ
+  pub few : count ≤ length d.blocks
+  pub kept : told_now ≡ Some (with_all (take count d.blocks) t)
+  pub written : AppendsPrefix (wants_text d.wants) out out_now
+
+-- it was stopped after the sync: all is there, its blocks were kept and then synced, and after the wants a prefix of
+-- `done` is written
+pub record StopsSynced (d : Due) (t : Contents) (told_now : Told) (out out_now : streams.Told) : Type 0 where
+  pub whole : d.ends ≡ Ok tt
+  pub kept : told_now ≡ Some (with_sync (with_all d.blocks t))
+  pub written : AppendsPrefix done_line (after out (wants_text d.wants)) out_now
+
+-- it was stopped: no byte of `done` is written unless all blocks were kept and a sync came after them
+abbrev pub StopsPull : Due → Contents → Told → streams.Told → streams.Told → Type 0
+StopsPull d t told_now out out_now = StopsUnsynced d t told_now out out_now ⊎ StopsSynced d t told_now out out_now
 
 abbrev pub RefusesBy : Bool → Due → PullFault → ℕ → List ℕ → Contents → Told → streams.Told → streams.Told
     → streams.Told → Type 0
@@ -120,6 +126,11 @@ abbrev pub Pulls : Due → List ℕ → Result ℕ PullFault → Contents → To
 Pulls d bytes (Ok n) t told_now out out_now left_now = Pulled d n bytes t told_now out out_now left_now
 Pulls d bytes (Err f) t told_now out out_now left_now =
     RefusesBy (stops_pull f) d f 0 bytes t told_now out out_now left_now
+
+-- all blocks were kept and a sync came after them, or no byte of `done` is written, but at most the wants
+abbrev pub IsDoneLast : Due → Contents → Told → streams.Told → streams.Told → Type 0
+IsDoneLast d t told_now out out_now =
+    (told_now ≡ Some (with_sync (with_all d.blocks t))) ⊎ AppendsPrefix (wants_text d.wants) out out_now
 
 -- ---- one CID of the walk
 
@@ -171,12 +182,13 @@ pub record StepsWalk (before now : Walked) (peer peer_now : Peer) : Type 0 where
   pub taken : HasTaken before now
   pub few : peer_now.added ≤ peer.added + 1
 
--- all is made durable, and the peer is told so; or that was stopped
+-- no sync was made and nothing is written, or a sync was made and a prefix of `done` is written
 pub record StopsLast (f : PullFault) (t : Contents) (told_now : Told) (out out_now : streams.Told) : Type 0 where
   pub stopped : stops_pull f ≡ true
-  pub kept : (told_now ≡ Some t) ⊎ (told_now ≡ Some (with_sync t))
-  pub written : AppendsPrefix done_line out out_now
+  pub last : ((told_now ≡ Some t) × (out_now ≡ out))
+      ⊎ ((told_now ≡ Some (with_sync t)) × AppendsPrefix done_line out out_now)
 
+-- all is made durable, and the peer is told so; or that was stopped
 abbrev pub Closes : Result Unit PullFault → Contents → Told → streams.Told → streams.Told → Type 0
 Closes (Ok u) t told_now out out_now = (told_now ≡ Some (with_sync t)) × (out_now ≡ after out done_line)
 Closes (Err f) t told_now out out_now = StopsLast f t told_now out out_now

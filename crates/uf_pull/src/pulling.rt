@@ -9,7 +9,7 @@ ghost use Rattle.uf_store.specs.Keeping.{KeepsGood};
 ghost use Rattle.uf_store.specs.Writing.{Wrote};
 ghost use Rattle.uf_cid.specs.declared.cid.Cid.{Cid as TheCid};
 ghost use Rattle.uf_pull.specs.Due.{due};
-ghost use Rattle.uf_pull.specs.Pulling.{Closes, IsOnCourse, IsPulling, IsSaveOrSync, LooksFor, OnlyPulls, Pulls};
+ghost use Rattle.uf_pull.specs.Pulling.{Closes, IsDoneLast, IsOnCourse, IsPulling, IsSaveOrSync, LooksFor, OnlyPulls, Pulls};
 ghost use Rattle.uf_pull.specs.Pulling.{SendsLine};
 ghost use Rattle.uf_pull.specs.Pulling.{StepsWalk};
 ghost use Rattle.uf_pull.specs.Pulling.{VisitsCid, at_first, stand};
@@ -44,6 +44,11 @@ pub fn pull<S: Store, I: Source, O: Sink, L: Ledger>(
         → Pulls (due S.X.block32 most cid.now (held_at t) bytes) bytes result t (S.seen store.new).told
         (O.holds out.old) (O.holds out.new) (I.left input.new) }
     ensures some { WritesBytes (O.holds out.old) (O.holds out.new) }
+
+    // Whatever it answers, no byte of `done` is written unless all blocks were kept and then synced.
+    ensures last { (t : Contents) (bytes : List ℕ) → (S.seen store.old).told ≡ Some t → I.left input.old ≡ Some bytes
+        → IsDoneLast (due S.X.block32 most cid.now (held_at t) bytes) t (S.seen store.new).told
+        (O.holds out.old) (O.holds out.new) }
 
     // After Ok all below the CID is held, and exactly what of it wasn't held was asked for.
     ensures wants { (t u : Contents) (bytes : List ℕ) → (S.seen store.old).told ≡ Some t
@@ -195,7 +200,7 @@ fn fetch<S: Store, I: Source, L: Ledger>(
     Ok(())
 }
 
-// Makes all that was kept durable, and tells the peer that no more is wanted.
+// Makes all that was kept durable, and then tells the peer that no more is wanted.
 fn close<S: Store, O: Sink>(store: &mut S, out: &mut O) -> Result<(), PullFault>
     ensures closes { (t : Contents) → (S.seen store.old).told ≡ Some t
         → Closes result t (S.seen store.new).told (O.holds out.old) (O.holds out.new) }
@@ -206,10 +211,17 @@ fn close<S: Store, O: Sink>(store: &mut S, out: &mut O) -> Result<(), PullFault>
     ensures writes { Counts (is_pull_sink result) (O.faults out.old) (O.faults out.new) }
 {
     match store.sync() {
-        Put::Done => {}
-        Put::Failed => return Err(PullFault::Store(StoreFault::Failed)),
-        Put::Memory => return Err(PullFault::Store(StoreFault::Memory)),
+        Put::Done => tell_done(out),
+        Put::Failed => Err(PullFault::Store(StoreFault::Failed)),
+        Put::Memory => Err(PullFault::Store(StoreFault::Memory)),
     }
+}
+
+// Tells the peer that no more is wanted.
+fn tell_done<O: Sink>(out: &mut O) -> Result<(), PullFault>
+    ensures tells { SendsLine done_line result (O.holds out.old) (O.holds out.new) }
+    ensures counts { Counts (is_pull_sink result) (O.faults out.old) (O.faults out.new) }
+{
     match write_all(out, b"done\n") {
         Sent::Done => Ok(()),
         Sent::Failed => Err(PullFault::Sink),

@@ -1,5 +1,6 @@
 -- A copy from a DAG into the tree that the Head names, from its opening to its commit.
-use Rattle.std.proofs.Common.{◌≡◌, ◌≢◌, ◌⊎◌, ℕ, ◌≤◌, List, [], ◌++◌, arith, true, false, refl, sym, ap, subst, ◌∙◌, inl, inr, Some, None, Result, Ok, Err}
+use Rattle.std.proofs.Common.{◌≡◌, ◌≢◌, ◌⊎◌, ℕ, ◌≤◌, List, [], arith, true, false, refl, sym, ap, subst, ◌∙◌, inl, inr, Option, Some, None, Result, Ok, Err}
+use Rattle.std.specs.Prelude.{IsErr}
 use Rattle.uf_cid.specs.Blocks.{Lookup}
 use Rattle.uf_edge.specs.Counts.{Counts, Stood}
 use Rattle.uf_edge.specs.Host.{HostTold}
@@ -12,11 +13,13 @@ use Rattle.uf_mfs.specs.Touches.{CountsUp}
 use Rattle.uf_mfs.specs.declared.fault.MfsFault.{MfsFault}
 use Rattle.uf_mfs.specs.declared.fault.MfsFault.TheVariants as mfs
 use Rattle.uf_mfs.specs.declared.mfs.Mfs.{Mfs}
-use Rattle.uf_mfs.proofs.Holding.{loss-back, loss-fault, tells-after}
+use Rattle.uf_mfs.specs.Missing.{put_names, put_needs}
+use Rattle.uf_mfs.proofs.Holding.{loss-fault, tells-after, tells-among}
+use Rattle.uf_mfs.proofs.Missing.{spot-needs-among}
 use Rattle.uf_mfs.proofs.Starting.{leaves-head, saves-head}
 use Rattle.uf_path.specs.declared.path.DagPath.{DagPath}
 use Rattle.uf_path.specs.declared.path.Path.{Path}
-use Rattle.uf_plain.specs.Needs.{root_of}
+use Rattle.uf_plain.specs.Moves.{spotted}
 use Rattle.uf_store.specs.Calls.{Calm, OnlySaves}
 use Rattle.uf_store.specs.Contents.{Told}
 use Rattle.uf_store.specs.Faults.{NoneIsBad, Shown, StaysCalm}
@@ -32,6 +35,7 @@ use Rattle.uf_tree.specs.Standing.{Standing, NoHead, BadHead, Stands}
 use Rattle.uf_tree.specs.Tree.{Dir, Entries}
 use Rattle.uf_tree.specs.TreePlan.{blocks}
 use Rattle.uf_tree.specs.declared.profile.Profile.{Profile}
+use Rattle.uf_command.specs.Dags.{adopted_name, tree_at}
 use Rattle.uf_command.specs.Natures.{MovesHead}
 use Rattle.uf_command.specs.Kinds.{adopt_kinds, OfWrite, fault_behind, may_close, refusal_fault, refusal_kind}
 use Rattle.uf_top.specs.Reply.{Outside, World, adopt_reply, adopted, grown, in_world, moved, outside_of, reply, world_of}
@@ -45,15 +49,18 @@ use Rattle.uf_top.specs.Answering.{Answers, DoesAnswer}
 use Rattle.uf_top.specs.Around.{HostSide, RisesFor, SinkSide, around}
 use Rattle.uf_top.specs.Causes.{IsBadIn, IsReadyBy, RefusesInTree, RefusesOpening, is_read}
 use Rattle.uf_top.specs.Endings.{EndsBy, RuleOf}
-use Rattle.uf_top.specs.Grafts.{GraftsIn, IsLostBy, PutsTree, TouchesUp, graft_kinds}
-use Rattle.uf_top.specs.Losing.{AnswersOver, DoesOver}
+use Rattle.uf_top.specs.Grafts.{GraftsIn, IsLostBy, LeavesUnplaced, PutsTree, SavesAdopted, TouchesUp, graft_kinds}
+use Rattle.uf_top.specs.Saving.{KeepsAdopted, SavesNoOther, adopted_blocks}
+use Rattle.uf_top.specs.Losing.{AnswersOver, DoesOver, placing_needs}
 use Rattle.uf_top.specs.Naming.{NamesAfter, StandsNamed, StaysNamed, TellsBlocks}
-use Rattle.uf_top.specs.Shapes.{WritesAs}
+use Rattle.uf_top.specs.Shapes.{HeadBy, WritesAs}
 use Rattle.uf_top.specs.Working.{Does}
 use Rattle.uf_top.proofs.Putting.{ok-value}
 use Rattle.uf_top.proofs.InTree.{not-opened, opening-ready, tree-wants}
-use Rattle.uf_top.proofs.Losing.{move-over, named-of, named-between, named-from, names-kept, names-same, opening-over}
+use Rattle.uf_top.proofs.Losing.{commits-agrees, leaves-agrees, move-over, named-of, named-between, named-from, names-kept, names-same, opening-over}
 use Rattle.uf_top.proofs.Printing.{after-nothing, nothing-printed, quiet-of, rises-still}
+use Rattle.uf_top.proofs.Saved.{can-rise-later, no-other-commits, no-other-leaves, no-other-same, no-other-trans, still-stood}
+use Rattle.uf_top.proofs.Shaped.{profile-said}
 use Rattle.uf_top.proofs.Shows.{Shown-opening, Shown-tree, bad-of-head, bad-of-none, counts-still, opening-touched, tree-touched}
 use Rattle.uf_top.proofs.Standings.{stands-same, tells-none}
 use Rattle.uf_top.proofs.Unready.{not-unready}
@@ -173,8 +180,8 @@ module _ (X : List ℕ → List ℕ) (N : List ℕ → ℕ) (tree new : Mfs) (so
   folder-over a m p es over named calm = record { plan = over.root.plan; stays = record { first = over.root.agrees; last = named.last }; calm = calm }
 
   -- a refusal over blocks that may be lost
-  stopped-over : (a m : Told) (p : Profile) (es : Entries) (w : Result Entries Refusal) (why : Refusal) (given : streams.Told) → IsLostBy a (blocks X N p (Dir es)) why ⊎ (w ≡ Err why)
-      → NamesAfter X N a m (blocks X N p (Dir es)) p es → DoesOver X N a m p es (blocks X N p (Dir es)) (grown X N p es w) (Err why) given given
+  stopped-over : (a m : Told) (p : Profile) (es : Entries) (w : Result Entries Refusal) (why : Refusal) (given : streams.Told) → IsLostBy a (placing_needs X N dest (Some (adopted_name source)) p es) why ⊎ (w ≡ Err why)
+      → NamesAfter X N a m (blocks X N p (Dir es)) p es → DoesOver X N a m p es (placing_needs X N dest (Some (adopted_name source)) p es) (grown X N p es w) (Err why) given given
   stopped-over a m p es w why given (inr is) stands =
       inr (record { ends = subst (λ w. EndsBy (grown X N p es w).ends (Err why) given given) (sym is) (refl, refl); stands = subst (λ w. StandsNamed X N a m (blocks X N p (Dir es)) (grown X N p es w).next) (sym is) stands })
   stopped-over a m p es w (refusal.Store f) given (inl lost) stands = inl (record { fault = f; ends_are = refl; loss = lost; stands = stands })
@@ -193,12 +200,14 @@ module _ (X : List ℕ → List ℕ) (N : List ℕ → ℕ) (tree new : Mfs) (so
   stopped-over a m p es w refusal.Write given (inl lost) stands = absurd lost
 
   -- it is refused
-  pub graft-refused : (a m : Seen) (why : Refusal) → ((held : Lookup) → TellsBlocks a.told held → PutsTree X N tree new (adopted X N held source dest) (Err why) a m)
-      → OnlySaves X (IsBadInTree X N (Some tree.profile) tree.root.cid) (fault_behind why) a m → graft_kinds (refusal_kind why) ≡ true → (t0 t1 : ℕ) → TouchesUp {A = Unit {0}} (Err why) t0 t1 → GraftsIn X N tree source dest (Err why) a m t0 t1
-  graft-refused a m why puts saves kind t0 t1 up = record {
+  pub graft-refused : (a m : Seen) (why : Refusal) → ((held : Lookup) → TellsBlocks a.told held → PutsTree X N tree new (placing_needs X N dest (Some (adopted_name source))) (adopted X N held source dest) (Err why) a m)
+      → OnlySaves X (IsBadInTree X N (Some tree.profile) tree.root.cid) (fault_behind why) a m → LeavesUnplaced X N tree source dest (Err why) a m → SavesAdopted X N tree source dest a m → graft_kinds (refusal_kind why) ≡ true → (t0 t1 : ℕ) → TouchesUp {A = Unit {0}} (Err why) t0 t1 → GraftsIn X N tree source dest (Err why) a m t0 t1
+  graft-refused a m why puts saves unplaced no_other kind t0 t1 up = record {
     lost = λ p es held given over named tells calm.
         stopped-over a.told m.told p es (adopted X N held source dest p es) why given (puts held tells p es over.profile_is (folder-over a m p es over named calm))
         (names-kept X N a.told m.told p es saves.good (saves-head X a.told m.told saves.saves) named);
+    unplaced = unplaced;
+    no_other = no_other;
     kinds = kind;
     cause = saves.cause;
     good = saves.good;
@@ -207,8 +216,12 @@ module _ (X : List ℕ → List ℕ) (N : List ℕ → ℕ) (tree new : Mfs) (so
     writes = record { between = m.told; saves = saves.saves; last = Same refl };
   }
 
-  module _ (a m b : Seen) (puts : (held : Lookup) → TellsBlocks a.told held → PutsTree X N tree new (adopted X N held source dest) (Ok tt) a m)
-      (saves : OnlySaves X (IsBadInTree X N (Some tree.profile) tree.root.cid) None a m) (kept : KeepsGood X m.told b.told) where
+  module _ (a m b : Seen) (puts : (held : Lookup) → TellsBlocks a.told held → PutsTree X N tree new (placing_needs X N dest (Some (adopted_name source))) (adopted X N held source dest) (Ok tt) a m)
+      (saves : OnlySaves X (IsBadInTree X N (Some tree.profile) tree.root.cid) None a m) (placed : LeavesUnplaced X N tree source dest (Ok tt) a m) (no_other : SavesAdopted X N tree source dest a m) (kept : KeepsGood X m.told b.told) where
+    -- there was a spot
+    was-placed : (done : Result (Unit {0}) Refusal) → m.faults ≤ b.faults → LeavesUnplaced X N tree source dest done a b
+    was-placed done later = λ p es over stood nowhere. absurd (let e : false ≡ true = (placed p es over (stood-front a.faults m.faults b.faults saves.cause.faults later stood) nowhere).0 in cc)
+
     first-calm : m.faults ≤ b.faults → m.clashes ≤ b.clashes → Calm a b → Calm a m
     first-calm faults clashes both = record {
       faults = stood-front a.faults m.faults b.faults saves.cause.faults faults both.faults;
@@ -225,8 +238,12 @@ module _ (X : List ℕ → List ℕ) (N : List ℕ → ℕ) (tree new : Mfs) (so
         record {
           lost = λ p es held given over named tells calm.
               stopped-over a.told b.told p es (adopted X N held source dest p es) w given
-              (inl (subst (IsLostBy a.told (blocks X N p (Dir es))) (sym (tree-wants f w is (wanting (stood-back a.faults m.faults b.faults saves.cause.faults calm.faults)))) tt))
+              (inl (subst (IsLostBy a.told (placing_needs X N dest (Some (adopted_name source)) p es)) (sym (tree-wants f w is (wanting (stood-back a.faults m.faults b.faults saves.cause.faults calm.faults)))) tt))
               (names-kept X N a.told b.told p es good head named);
+          unplaced = was-placed (Err w) (shown-rises X (IsBadInTree X N (Some tree.profile) tree.root.cid) (fault_behind w) m b shown).faults;
+          no_other = λ held p es tells over last can.
+              let l = adopted_blocks X N (tree_at held source) source dest p es in
+              no-other-trans X l a.told m.told b.told (no_other held p es tells over (leaves-agrees m.told b.told (blocks X N p (Dir es)) leaves last) can) (no-other-leaves X l m.told b.told leaves);
           kinds = tree-kind f w is;
           cause = shown-after X (IsBadInTree X N (Some tree.profile) tree.root.cid) (fault_behind w) a m b saves.cause shown;
           good = good;
@@ -236,24 +253,29 @@ module _ (X : List ℕ → List ℕ) (N : List ℕ → ℕ) (tree new : Mfs) (so
         }
 
     -- it is committed
-    pub graft-committed : Commits new.profile new.root.cid m.told b.told → StaysCalm m b → (t0 t2 : ℕ) → GraftsIn X N tree source dest (Ok tt) a b t0 t2
-    graft-committed commits later t0 t2 = record {
+    pub graft-committed : new.profile ≡ tree.profile → Commits new.profile new.root.cid m.told b.told → StaysCalm m b → (t0 t2 : ℕ) → GraftsIn X N tree source dest (Ok tt) a b t0 t2
+    graft-committed same commits later t0 t2 = record {
       lost = λ p es held given over named tells calm.
           let rises = calm-rises m b later in
           let v = ok-value (λ fs. StandsAfter X N a.told m.told (blocks X N p (Dir es)) new p fs) (adopted X N held source dest p es)
           (puts held tells p es over.profile_is (folder-over a m p es over (named-between X N a.told m.told b.told new.profile new.root.cid p es commits named) (first-calm rises.faults rises.clashes calm))) in
-          subst (λ w. DoesOver X N a.told b.told p es (blocks X N p (Dir es)) (grown X N p es w) (Ok tt) given given) (sym v.1)
-          (done p es v.0 given (move-over X N a.told b.told p es (blocks X N p (Dir es)) m.told (Ok v.0) new [] v.2 refl commits));
+          subst (λ w. DoesOver X N a.told b.told p es (placing_needs X N dest (Some (adopted_name source)) p es) (grown X N p es w) (Ok tt) given given) (sym v.1)
+          (done p es v.0 given (move-over X N a.told b.told p es (placing_needs X N dest (Some (adopted_name source)) p es) m.told (Ok v.0) new [] v.2 refl commits));
+      unplaced = was-placed (Ok tt) (calm-rises m b later).faults;
+      no_other = λ held p es tells over last can.
+          let l = adopted_blocks X N (tree_at held source) source dest p es in
+          no-other-trans X l a.told m.told b.told (no_other held p es tells over (commits-agrees m.told b.told new.profile new.root.cid (blocks X N p (Dir es)) commits last) can)
+          (no-other-commits X l new.profile new.root.cid m.told b.told commits);
       kinds = tt;
       cause = StaysCalm-trans a m b saves.cause later;
       good = KeepsGood-trans X a.told m.told b.told saves.good kept;
       touched = λ blames. absurd blames;
       head = tt;
-      writes = (new.profile, new.root.cid, record { between = m.told; saves = saves.saves; last = commits });
+      writes = (new.root.cid, record { between = m.told; saves = saves.saves; last = subst (λ p. Commits p new.root.cid m.told b.told) same commits });
     }
       where
-        done : (p : Profile) (es fs : Entries) (given : streams.Told) → AnswersOver X N a.told b.told p es (blocks X N p (Dir es)) (moved X N p es (Ok fs)) (Ok [])
-            → DoesOver X N a.told b.told p es (blocks X N p (Dir es)) (grown X N p es (Ok fs)) (Ok tt) given given
+        done : (p : Profile) (es fs : Entries) (given : streams.Told) → AnswersOver X N a.told b.told p es (placing_needs X N dest (Some (adopted_name source)) p es) (moved X N p es (Ok fs)) (Ok [])
+            → DoesOver X N a.told b.told p es (placing_needs X N dest (Some (adopted_name source)) p es) (grown X N p es (Ok fs)) (Ok tt) given given
         done p es fs given (inl x) = absurd (let e = x.ends_are in cc)
         done p es fs given (inr x) = inr (record { ends = (refl, after-nothing given); stands = x.stands })
 
@@ -274,17 +296,22 @@ module _ (X : List ℕ → List ℕ) (N : List ℕ → ℕ) where
   stands-blocks None p es stands = absurd stands
   stands-blocks (Some t) p es stands = stands.blocks_held
 
+  -- all that a put needs is held where the store stands
+  pub placing-held : (told : Told) (p : Profile) (es : Entries) (dest : Path) (name : Option (List ℕ)) → TellsAs X N told (Stands p es) → TellsHeld told (placing_needs X N dest name p es)
+  placing-held told p es dest name stands =
+      tells-among told (blocks X N p (Dir es)) (placing_needs X N dest name p es) (λ P h. spot-needs-among X N p (put_names dest name) (Dir es) P h) (stands-blocks told p es stands)
+
   grown-stands : (a b : Told) (p : Profile) (es : Entries) (w : Result Entries Refusal) → TellsHeld a (blocks X N p (Dir es)) → StandsNamed X N a b (blocks X N p (Dir es)) (grown X N p es w).next
       → TellsAs X N b (grown X N p es w).next × TellsHeld b (grown X N p es w).held
   grown-stands a b p es (Ok fs) held named = (let s = named-stands a b p es fs held named in (s, stands-blocks b p fs s))
   grown-stands a b p es (Err why) held named = (let s = named-stands a b p es es held named in (s, tells-none X N b (Stands p es) s))
 
   over-answers : (source : DagPath) (dest : Path) (lookup : Lookup) (input : Outside) (a b : Told) (p : Profile) (es : Entries) (done : Result (Unit {0}) Refusal) (given : streams.Told) (host : HostTold) → TellsAs X N a (Stands p es)
-      → DoesOver X N a b p es (blocks X N p (Dir es)) (adopt_reply X N lookup source dest p es) done given given
+      → DoesOver X N a b p es (placing_needs X N dest (Some (adopted_name source)) p es) (adopt_reply X N lookup source dest p es) done given given
       → DoesAnswer X N (Adopt source dest) (in_world p es lookup input) done given given b host
   over-answers source dest lookup input a b p es done given host stands (inl x) =
       let held = stands-blocks a p es stands in
-      inl (record { ends_are = x.ends_are ∙ ap (λ (f : StoreFault). Err (refusal.Store f)) (loss-fault a (blocks X N p (Dir es)) x.fault held x.loss); stands = named-stands a b p es es held x.stands })
+      inl (record { ends_are = x.ends_are ∙ ap (λ (f : StoreFault). Err (refusal.Store f)) (loss-fault a (placing_needs X N dest (Some (adopted_name source)) p es) x.fault (placing-held a p es dest (Some (adopted_name source)) stands) x.loss); stands = named-stands a b p es es held x.stands })
   over-answers source dest lookup input a b p es done given host stands (inr x) =
       let s = grown-stands a b p es (adopted X N lookup source dest p es) (stands-blocks a p es stands) x.stands in
       inr (record { ends = x.ends; stands = s.0; blocks = s.1 }, tt)
@@ -303,7 +330,7 @@ module _ (X : List ℕ → List ℕ) (N : List ℕ → ℕ) where
           answers = λ world finds input quiet2. answered world
               (not-opened X N world.standing (adopt_reply X N world.held source dest) f why m.told is (opens world.standing finds.stands quiet2.store.faults) (stands-same X N a.told m.told world.standing told finds.stands));
           lost = λ p es rows held bytes named tells heights input quiet2. over p es held bytes
-              (opening-over X N a.told m.told p es (blocks X N p (Dir es)) (adopt_reply X N held source dest p es) f why is (lost p es named.names quiet2.store.faults) (names-same X N a.told m.told p es told named));
+              (opening-over X N a.told m.told p es (put_needs X N p (put_names dest (Some (adopted_name source))) (Dir es)) (adopt_reply X N held source dest p es) f why is (lost p es named.names quiet2.store.faults) (names-same X N a.told m.told p es told named));
           unprinted = λ world after. absurd cc;
           unprinted_over = λ p es held outside after. absurd cc;
           prefix = λ world finds input room. nothing-printed (reply X N (Adopt source dest) world).ends h h refl;
@@ -315,14 +342,14 @@ module _ (X : List ℕ → List ℕ) (N : List ℕ → ℕ) where
           host = refl;
           gets = tt;
           pins = tt;
-          kept = tt;
+          kept = λ held tells p es named can. no-other-same X (adopted_blocks X N (tree_at held source) source dest p es) a.told m.told told;
           writes = subst (λ f. RisesFor f w w) (sym quiet.unwritten) (rises-still w);
           cause = Shown-opening Mfs X (IsBadInHead X N a.told) (IsBadIn X N a.told m.told) (bad-of-none X N a.told m.told) f why a m is cause;
           whole = λ s needs stands quiet2. absurd cc;
           touches = λ p es bytes rows named input heights quiet2. tt;
           touched = (opening-touched Mfs f why t0 t1 is up).risen;
-          unready = λ or_none e is. record { told = told; left = refl; reads = refl };
-          unplaced = λ p es names stood none. absurd none;
+          unready = λ e is. record { told = told; left = refl; reads = refl };
+          unplaced = λ p es names stood none. record { told = told; left = refl; reads = refl };
           leaves = record {
             good = KeepsGood-same X a.told m.told told;
             head = ap head_in told;
@@ -335,8 +362,8 @@ module _ (X : List ℕ → List ℕ) (N : List ℕ → ℕ) where
         answered world (inl x) = inl (record { ends_are = ap (λ (r : Refusal). Err r) (let same = x.ends_are in cc); stands = x.stands })
         answered world (inr x) = inr (record { ends = subst (λ e. EndsBy e (Err why) h h) x.ends_are (refl, refl); stands = x.stands; blocks = x.held }, tt)
 
-        over : (p : Profile) (es : Entries) (held : Lookup) (bytes : Outside) → AnswersOver X N a.told m.told p es (root_of X N p (Dir es) ++ blocks X N p (Dir es)) (adopt_reply X N held source dest p es) (Err why)
-            → DoesOver X N a.told m.told p es (root_of X N p (Dir es) ++ blocks X N p (Dir es)) (reply X N (Adopt source dest) (in_world p es held bytes)) (Err why) h h
+        over : (p : Profile) (es : Entries) (held : Lookup) (bytes : Outside) → AnswersOver X N a.told m.told p es (placing_needs X N dest (Some (adopted_name source)) p es) (adopt_reply X N held source dest p es) (Err why)
+            → DoesOver X N a.told m.told p es (placing_needs X N dest (Some (adopted_name source)) p es) (reply X N (Adopt source dest) (in_world p es held bytes)) (Err why) h h
         over p es held bytes (inl x) = inl (record { fault = x.fault; ends_are = ap (λ (r : Refusal). Err r) (let same = x.ends_are in cc); loss = x.loss; stands = x.stands })
         over p es held bytes (inr x) = inr (record { ends = subst (λ e. EndsBy e (Err why) h h) x.ends_are (refl, refl); stands = x.stands })
 
@@ -352,16 +379,30 @@ module _ (X : List ℕ → List ℕ) (N : List ℕ → ℕ) where
         back both = record { faults = stood-back a.faults m.faults b.faults calm.faults both.faults; clashes = stood-back a.clashes m.clashes b.clashes calm.clashes both.clashes }
 
         over-opened : (p : Profile) (es : Entries) (held : Lookup) → StaysNamed X N a.told b.told p es → TellsBlocks a.told held → Calm a b
-            → DoesOver X N a.told b.told p es (blocks X N p (Dir es)) (adopt_reply X N held source dest p es) done h h
+            → DoesOver X N a.told b.told p es (placing_needs X N dest (Some (adopted_name source)) p es) (adopt_reply X N held source dest p es) done h h
         over-opened p es held named tells both =
             let at = lost p es named.names (front both.faults) in
-            subst (λ t. DoesOver X N t b.told p es (blocks X N p (Dir es)) (adopt_reply X N held source dest p es) done h h) told
+            subst (λ t. DoesOver X N t b.told p es (placing_needs X N dest (Some (adopted_name source)) p es) (adopt_reply X N held source dest p es) done h h) told
             (grafts.lost p es held h (subst (λ t. StandsOver X N t tree p es) (sym told) at) (named-from X N a.told m.told b.told p es told named) (subst (λ t. TellsBlocks t held) (sym told) tells) (back both))
 
-        more-over : (p : Profile) (es : Entries) (held : Lookup) (bytes : Outside) → DoesOver X N a.told b.told p es (blocks X N p (Dir es)) (adopt_reply X N held source dest p es) done h h
-            → DoesOver X N a.told b.told p es (root_of X N p (Dir es) ++ blocks X N p (Dir es)) (reply X N (Adopt source dest) (in_world p es held bytes)) done h h
-        more-over p es held bytes (inl x) = inl (record { fault = x.fault; ends_are = x.ends_are; loss = loss-back a.told (root_of X N p (Dir es)) (blocks X N p (Dir es)) x.fault x.loss; stands = x.stands })
+        more-over : (p : Profile) (es : Entries) (held : Lookup) (bytes : Outside) → DoesOver X N a.told b.told p es (placing_needs X N dest (Some (adopted_name source)) p es) (adopt_reply X N held source dest p es) done h h
+            → DoesOver X N a.told b.told p es (placing_needs X N dest (Some (adopted_name source)) p es) (reply X N (Adopt source dest) (in_world p es held bytes)) done h h
+        more-over p es held bytes (inl x) = inl (record { fault = x.fault; ends_are = x.ends_are; loss = x.loss; stands = x.stands })
         more-over p es held bytes (inr x) = inr (record { ends = x.ends; stands = x.stands })
+
+        -- the tree has no spot for it
+        no-spot : (p : Profile) (es : Entries) → NamesOver X N a.told p es → Stood a.faults b.faults → IsErr (spotted dest (Some (adopted_name source)) es) → IsErr done × (b.told ≡ a.told)
+        no-spot p es names stood nowhere =
+            let at = lost p es names (front stood) in
+            let x = grafts.unplaced p es (subst (λ t. StandsOver X N t tree p es) (sym told) at) (stood-back a.faults m.faults b.faults calm.faults stood) nowhere in
+            (x.0, x.1 ∙ told)
+
+        -- what was saved
+        saved-opened : KeepsAdopted X N a b source dest
+        saved-opened = λ held tells p es named can.
+            let at = lost p es named.names (still-stood a.faults m.faults can.faults calm.faults) in
+            subst (λ t. SavesNoOther X (adopted_blocks X N (tree_at held source) source dest p es) t b.told) told
+            (grafts.no_other held p es (subst (λ t. TellsBlocks t held) (sym told) tells) (subst (λ t. StandsOver X N t tree p es) (sym told) at) named.last (can-rise-later a m calm can))
 
         all_good : KeepsGood X a.told b.told
         all_good = subst (λ t. KeepsGood X t b.told) told grafts.good
@@ -396,14 +437,14 @@ module _ (X : List ℕ → List ℕ) (N : List ℕ → ℕ) where
             host = refl;
             gets = tt;
             pins = tt;
-            kept = tt;
+            kept = saved-opened (Err why) g;
             writes = subst (λ f. RisesFor f w w) (sym quiet.unwritten) (rises-still w);
             cause = shown (Err why) g;
             whole = λ s needs stands quiet2. absurd cc;
             touches = λ p es bytes rows named input heights quiet2. tt;
             touched = λ blames. let more = g.touched blames in omega (arith, low, more);
-            unready = λ or_none e is. absurd (not-unready {A = Unit {0}} graft_kinds (Err why) refl refl g.kinds is);
-            unplaced = λ p es names stood none. absurd none;
+            unready = λ e is. absurd (not-unready {A = Unit {0}} graft_kinds (Err why) refl refl g.kinds is);
+            unplaced = λ p es names stood none. record { told = (no-spot (Err why) g p es names stood none).1; left = refl; reads = refl };
             leaves = record {
               good = all_good (Err why) g;
               head = g.head ∙ ap head_in told;
@@ -428,15 +469,15 @@ module _ (X : List ℕ → List ℕ) (N : List ℕ → ℕ) where
         host = refl;
         gets = tt;
         pins = tt;
-        kept = tt;
+        kept = saved-opened (Ok tt) g;
         writes = rises-still w;
         cause = shown (Ok tt) g;
         whole = λ s needs stands quiet2. absurd cc;
         touches = λ p es bytes rows named input heights quiet2. tt;
         touched = λ blames. absurd blames;
-        unready = λ or_none e is. absurd cc;
-        unplaced = λ p es names stood none. absurd none;
-        leaves = record { good = all_good (Ok tt) g; head = tt; writes = subst (λ t. WritesAs X MovesHead true t b.told) told g.writes; idle = λ p es bytes names calm same. absurd cc };
+        unready = λ e is. absurd cc;
+        unplaced = λ p es names stood none. absurd (let e : false ≡ true = (no-spot (Ok tt) g p es names stood none).0 in cc);
+        leaves = record { good = all_good (Ok tt) g; head = tt; writes = (tree.profile, profile-said a.told tree head, subst (λ t. HeadBy X tree.profile t b.told) told g.writes); idle = λ p es bytes names calm same. absurd cc };
       }
 
       pub graft-ends : (done : Result (Unit {0}) Refusal) → GraftsIn X N tree source dest done m b t1 t2 → Does X N (Adopt source dest) done (around a l i h w t0 side er) (around b l i h w t2 side er2)

@@ -5,6 +5,7 @@ use Rattle.uf_edge.specs.Counts.{Stood}
 use Rattle.uf_mfs.specs.Answers as tree
 use Rattle.uf_mfs.specs.Answers.{MovesTo, ShownInTree}
 use Rattle.uf_mfs.specs.Bad.{IsBadInTree}
+use Rattle.uf_mfs.specs.Saving.{SavesForEdit}
 use Rattle.uf_mfs.specs.Standing.{Commits, IsWanting, LeavesHead, NamesOver, Same, StandsAfter, StandsAt, StandsOver, TellsAs, head_in}
 use Rattle.uf_mfs.specs.Steps.{IsFolderOver, tree_fault}
 use Rattle.uf_mfs.specs.Touches.{CountsUp}
@@ -30,23 +31,26 @@ use Rattle.uf_command.specs.Commands.{is_idle}
 use Rattle.uf_command.specs.Natures.{NoWrites, ask_writes}
 use Rattle.uf_command.specs.Kinds.{fault_behind}
 use Rattle.uf_top.specs.Reply.{looked, tree_reply}
-use Rattle.uf_edits.specs.Edits.{edited_by, IsBadAsked, EditsInMemory}
+use Rattle.uf_edits.specs.Edits.{edited_blocks, edited_by, IsBadAsked, EditsInMemory}
 use Rattle.uf_command.specs.declared.types.Ask.{Ask}
 use Rattle.uf_command.specs.declared.types.Ask.TheVariants.{Ls, Stat, Edit as Edits}
 use Rattle.uf_command.specs.declared.types.Command.TheVariants.{At}
 use Rattle.uf_command.specs.declared.types.Edit.{Edit}
 use Rattle.uf_command.specs.declared.types.Refusal.{Refusal}
 use Rattle.uf_top.specs.Answering.{Answers}
+use Rattle.uf_top.specs.Around.{CountsCanRise}
 use Rattle.uf_top.specs.Bounds.{ask_touches}
 use Rattle.uf_top.specs.Causes.{IsAskText, IsMade, RefusesInTree}
 use Rattle.uf_top.specs.Losing.{AnswersOver, ask_needs}
 use Rattle.uf_top.specs.Naming.{StaysNamed}
-use Rattle.uf_top.specs.Shapes.{WritesAs, is_ok}
+use Rattle.uf_top.specs.Saving.{SavesNoOther, asked_blocks}
+use Rattle.uf_top.specs.Shapes.{WritesInTree, is_ok}
 use Rattle.uf_top.specs.Working.{WorksAt}
 use Rattle.uf_top.proofs.Finding.{idle-head}
 use Rattle.uf_top.proofs.InTree.{edit-answers, fault-answers, look-answers, move-answers, stays-nothing, stays-same, tree-wants, wants}
 use Rattle.uf_top.proofs.Classed.{made-kinds, tree-kinds}
 use Rattle.uf_top.proofs.Losing.{edit-over, fault-over, look-over, lost-wants, move-over, named-before, named-between, names-kept, names-same}
+use Rattle.uf_top.proofs.Saved.{no-other-among, no-other-commits, no-other-leaves, no-other-same, no-other-trans, throughout}
 use Rattle.uf_top.proofs.Shows.{Shown-tree, bad-way, made-shown, made-touched, no-rows, tree-touched}
 use Rattle.uf_top.proofs.Standings.{stands-kept, stands-same}
 
@@ -79,7 +83,8 @@ module _ (X : List ℕ → List ℕ) (N : List ℕ → ℕ) (mfs : Mfs) (path : 
       touched = tree-touched B f w t0 t1 is up;
       good = KeepsGood-same X a.told b.told told;
       head = ap head_in told;
-      writes = subst (λ s. WritesAs X s false a.told b.told) (sym looks) told;
+      kept = λ p es over named can. no-other-same X (asked_blocks X N ask path.names p es) a.told b.told told;
+      writes = subst (λ s. WritesInTree X mfs.profile s false a.told b.told) (sym looks) told;
       idle = λ p es at_tree stands faults same. told;
     }
 
@@ -102,7 +107,8 @@ module _ (X : List ℕ → List ℕ) (N : List ℕ → ℕ) (mfs : Mfs) (path : 
       touched = made-touched M text r t0 t1 made up;
       good = KeepsGood-same X a.told b.told told;
       head = stays-same r a.told b.told (ap head_in told);
-      writes = subst (λ s. WritesAs X s (is_ok r) a.told b.told) (sym looks) told;
+      kept = λ p es over named can. no-other-same X (asked_blocks X N ask path.names p es) a.told b.told told;
+      writes = subst (λ s. WritesInTree X mfs.profile s (is_ok r) a.told b.told) (sym looks) told;
       idle = λ p es at_tree stands faults same. told;
     }
 
@@ -111,6 +117,12 @@ module _ (X : List ℕ → List ℕ) (N : List ℕ → ℕ) (mfs : Mfs) (path : 
   module _ (edit : Edit) (new : Mfs) (a m : Seen) (t0 t1 : ℕ) where
     folder-over : (p : Profile) (es : Entries) → StandsOver X N a.told mfs p es → StaysNamed X N a.told m.told p es → Calm a m → IsFolderOver X N p a m [] mfs.root es
     folder-over p es over named calm = record { plan = over.root.plan; stays = record { first = over.root.agrees; last = named.last }; calm = calm }
+
+    -- what the edit saves, where a failure or a clash would show
+    edit-saves : (p : Profile) (es : Entries) → StandsOver X N a.told mfs p es → StaysNamed X N a.told m.told p es → CountsCanRise a → SavesForEdit X N a m mfs (edited_blocks X N edit path.names)
+        → SavesNoOther X (edited_blocks X N edit path.names p es) a.told m.told
+    edit-saves p es over named can saves =
+        no-other-among X (edited_blocks X N edit path.names p es) a.told m.told (saves p es over (throughout a m (blocks X N p (Dir es)) over.root.agrees named.last can))
 
     -- the edit is refused
     pub edit-refused : (f : MfsFault) (w : Refusal) → RefusesInTree f w → EditsInMemory X N mfs new edit path (Err f) a m t0 t1 → WorksAt X N mfs (Edits edit) path (Err w) a m t0 t1
@@ -129,6 +141,7 @@ module _ (X : List ℕ → List ℕ) (N : List ℕ → ℕ) (mfs : Mfs) (path : 
       good = e.good;
       head = saves-head X a.told m.told e.saves;
       writes = record { between = m.told; saves = e.saves; last = Same refl };
+      kept = λ p es over named can. edit-saves p es over named can e.no_other;
       idle = λ p es at_tree stands faults same. (e.idle p es at_tree faults same).0;
     }
 
@@ -180,6 +193,10 @@ module _ (X : List ℕ → List ℕ) (N : List ℕ → ℕ) (mfs : Mfs) (path : 
             good = both-good;
             head = head;
             writes = record { between = m.told; saves = e.saves; last = leaves };
+            kept = λ p es over named can.
+                no-other-trans X (edited_blocks X N edit path.names p es) a.told m.told b.told
+                (edit-saves p es over (named-before X N a.told m.told b.told p es leaves named) can e.no_other)
+                (no-other-leaves X (edited_blocks X N edit path.names p es) m.told b.told leaves);
             idle = both-idle rises.faults;
           }
 
@@ -208,6 +225,10 @@ module _ (X : List ℕ → List ℕ) (N : List ℕ → ℕ) (mfs : Mfs) (path : 
         touched = record { kept = (let x = e.touched.kept in omega (arith, x, still)); risen = λ blames. absurd blames };
         good = both-good;
         head = stays-nothing text a.told b.told nothing;
-        writes = (new.profile, new.root.cid, record { between = m.told; saves = e.saves; last = commits });
+        writes = (new.root.cid, record { between = m.told; saves = e.saves; last = subst (λ p. Commits p new.root.cid m.told b.told) e.stays.2 commits });
+        kept = λ p es over named can.
+            no-other-trans X (edited_blocks X N edit path.names p es) a.told m.told b.told
+            (edit-saves p es over (named-between X N a.told m.told b.told new.profile new.root.cid p es commits named) can e.no_other)
+            (no-other-commits X (edited_blocks X N edit path.names p es) new.profile new.root.cid m.told b.told commits);
         idle = both-idle (calm-rises m b later).faults;
       }

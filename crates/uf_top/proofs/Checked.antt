@@ -39,6 +39,8 @@ module _ (X : List ℕ → List ℕ) (N : List ℕ → ℕ) (given : Status) (do
         front = λ bytes p t height left is high. inr (no-front _ a.held);
         first = λ bytes p t height left is high. inr tt;
         some = ([], no-bytes a.held);
+        root_section = λ bytes left. tt;
+        line = λ asked. tt;
         shown = λ bytes left. tt;
         own = tt;
         reads = counts-still a.reads;

@@ -112,7 +112,7 @@ module _ (X : List ℕ → List ℕ) (N : List ℕ → ℕ) (cid : Cid) (a b : S
         whole = λ s needs stands calm. absurd cc;
         touches = λ p es bytes rows named input heights calm. tt;
         touched = λ blames. absurd (of.blames blames);
-        unready = λ or_none e is. absurd cc;
+        unready = λ e is. absurd cc;
         unplaced = λ p es names stood none. absurd none;
         leaves = record { good = KeepsGood-same X a.told b.told same; head = ap head_in same; writes = same; idle = λ p es bytes stands calm is. absurd cc };
       }
@@ -153,7 +153,7 @@ module _ (X : List ℕ → List ℕ) (N : List ℕ → ℕ) (cid : Cid) (a b : S
       whole = λ s needs stands calm. absurd cc;
       touches = λ p es bytes rows named input heights calm. tt;
       touched = λ blames. absurd blames;
-      unready = λ or_none e is. absurd cc;
+      unready = λ e is. absurd cc;
       unplaced = λ p es names stood none. absurd none;
       leaves = record { good = KeepsGood-same X a.told b.told same; head = tt; writes = same; idle = λ p es bytes stands calm is. absurd cc };
     }
@@ -186,7 +186,7 @@ module _ (X : List ℕ → List ℕ) (N : List ℕ → ℕ) (cid : Cid) (a b : S
       whole = λ s needs stands calm. absurd cc;
       touches = λ p es bytes rows named input heights calm. tt;
       touched = λ blames. absurd blames;
-      unready = λ or_none e is. absurd cc;
+      unready = λ e is. absurd cc;
       unplaced = λ p es names stood none. absurd none;
       leaves = record { good = KeepsGood-same X a.told b.told same; head = ap head_in same; writes = same; idle = λ p es bytes stands calm is. absurd cc };
     }

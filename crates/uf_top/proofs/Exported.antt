@@ -154,7 +154,7 @@ module _ (X : List ℕ → List ℕ) (N : List ℕ → ℕ) (cid : Cid) (a b : S
         whole = λ s needs stands calm. absurd cc;
         touches = λ p es bs rows named input heights calm. tt;
         touched = λ blames. absurd (no-blame X a b why of cause blames);
-        unready = λ or_none e is. absurd cc;
+        unready = λ e is. absurd cc;
         unplaced = λ p es names stood none. absurd none;
         leaves = record { good = KeepsGood-same X a.told b.told same; head = ap head_in same; writes = same; idle = λ p es bs stands calm is. absurd cc };
       }
@@ -190,7 +190,7 @@ module _ (X : List ℕ → List ℕ) (N : List ℕ → ℕ) (cid : Cid) (a b : S
     whole = λ s needs stands quiet. absurd cc;
     touches = λ p es bs rows named input heights quiet. tt;
     touched = λ blames. absurd blames;
-    unready = λ or_none e is. absurd cc;
+    unready = λ e is. absurd cc;
     unplaced = λ p es names stood none. absurd none;
     leaves = record { good = KeepsGood-same X a.told b.told same; head = tt; writes = same; idle = λ p es bs stands quiet is. absurd cc };
   }
@@ -227,7 +227,7 @@ module _ (X : List ℕ → List ℕ) (N : List ℕ → ℕ) (cid : Cid) (a b : S
     whole = λ s needs stands quiet. absurd cc;
     touches = λ p es bs rows named input heights quiet. tt;
     touched = λ blames. absurd blames;
-    unready = λ or_none e is. absurd cc;
+    unready = λ e is. absurd cc;
     unplaced = λ p es names stood none. absurd none;
     leaves = record { good = KeepsGood-same X a.told b.told same; head = ap head_in same; writes = same; idle = λ p es bs stands quiet is. absurd cc };
   }

@@ -106,7 +106,7 @@ pub none-printed : (held now : streams.Told) → AppendsPrefix [] held now → n
 none-printed held now p = p.appended ∙ ap (λ (l : List ℕ). after held l) (take-none p.count) ∙ sym (after-nothing held)
 
 -- the rows of a file are its height
-height-of : (p : Profile) (rows : ℕ → ℕ) (v : Result Tree Refused) → IsTrue (is_profile p) → AreHeights p rows → IsHeightOf p (rows_found rows v) v
+pub height-of : (p : Profile) (rows : ℕ → ℕ) (v : Result Tree Refused) → IsTrue (is_profile p) → AreHeights p rows → IsHeightOf p (rows_found rows v) v
 height-of p rows (Ok (File m bytes)) ok heights = heights-with p rows ok heights m (length bytes)
 height-of p rows (Ok (Dir es)) ok heights = tt
 height-of p rows (Err why) ok heights = tt
@@ -328,7 +328,7 @@ module _ (X : List ℕ → List ℕ) (N : List ℕ → ℕ) (offset count : ℕ)
         whole = λ s stands calm. read-whole X N s offset count path.names (Err why) m.told
             (not-opened X N s (read_reply offset count path.names) f why m.told is (opens s stands calm.faults) (stands-same X N a.told m.told s told stands));
         touched = (opening-touched Mfs f why t0 t1 is up).risen;
-        unready = λ or_none e is. record { told = told; left = refl; reads = refl };
+        unready = λ e is. record { told = told; left = refl; reads = refl };
         unplaced = λ p es names stood none. absurd none;
         leaves = record { good = KeepsGood-same X a.told m.told told; head = ap head_in told; writes = told; idle = λ p es bytes stands calm same. absurd cc };
       }
@@ -426,7 +426,7 @@ module _ (X : List ℕ → List ℕ) (N : List ℕ → ℕ) (offset count : ℕ)
       touches = λ p es bytes rows named input heights quiet.
           let more = touches p es rows (opened-over p es named.names (front quiet.faults)) heights (back quiet.faults) in omega (arith, opens_by, more);
       touched = by-kind;
-      unready = λ or_none e is. record { told = same; left = refl; reads = refl };
+      unready = λ e is. record { told = same; left = refl; reads = refl };
       unplaced = λ p es names stood none. absurd none;
       leaves = record { good = KeepsGood-same X a.told b.told same; head = if-err done _ (ap head_in same); writes = same-writes; idle = λ p es bytes stands calm same. absurd cc };
     }

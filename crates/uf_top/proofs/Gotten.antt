@@ -521,7 +521,7 @@ module _ (X : List ℕ → List ℕ) (N : List ℕ → ℕ) (source : DagPath) (
       whole = λ s needs stands calm. absurd cc;
       touches = λ p es bytes rows named input heights calm. tt;
       touched = λ blames. absurd (so.blames blames);
-      unready = λ or_none e is. absurd cc;
+      unready = λ e is. absurd cc;
       unplaced = λ p es names stood none. absurd none;
       leaves = record { good = KeepsGood-same X a.told b.told same; head = so.head; writes = same; idle = λ p es bytes stands calm is. absurd cc };
     }

@@ -1,5 +1,6 @@
 -- What is found in a DAG, built, and put into the tree in memory.
-use Rattle.std.proofs.Common.{◌≡◌, ℕ, ◌≤◌, List, [], arith, true, refl, sym, ap, subst, ◌∙◌, inl, inr, Option, Some, None, Result, Ok, Err}
+use Rattle.std.proofs.Common.{◌≡◌, ℕ, ◌≤◌, List, [], ◌∷◌, arith, false, true, refl, sym, ap, subst, ◌∙◌, inl, inr, Option, Some, None, Result, Ok, Err}
+use Rattle.std.specs.Prelude.{IsErr}
 use Rattle.uf_adopt.specs.Adopting.{BuildsTree, IsBuilt}
 use Rattle.uf_adopt.specs.Faults.{TellsStoreApart, adopt_fault}
 use Rattle.uf_adopt.specs.Feeding.{HoldsGoodMap}
@@ -22,10 +23,14 @@ use Rattle.uf_mfs.specs.Standing.{StandsAfter, StandsOver}
 use Rattle.uf_mfs.specs.Steps.{IsFolderOver}
 use Rattle.uf_mfs.specs.Touches.{CountsUp, IsBlaming}
 use Rattle.uf_mfs.specs.declared.mfs.Mfs.{Mfs}
+use Rattle.uf_mfs.specs.Missing.{put_names, put_needs}
 use Rattle.uf_mfs.proofs.Folders.{read-over}
+use Rattle.uf_mfs.proofs.Missing.{spotted-names}
 use Rattle.uf_path.specs.declared.path.DagPath.{DagPath}
 use Rattle.uf_path.specs.declared.path.Path.{Path}
 use Rattle.uf_plain.specs.Moves.{spotted, told_of}
+use Rattle.uf_plain.specs.Needs.{root_of}
+use Rattle.uf_plain.specs.declared.rule.Rule.{Rule}
 use Rattle.uf_plain.specs.Rules.{unless}
 use Rattle.uf_plain.specs.declared.spot.Spot.{Spot}
 use Rattle.uf_store.specs.Calls.{OnlyReads}
@@ -48,10 +53,12 @@ use Rattle.uf_top.specs.Reply.{adopted, by_rule, grafted, with_plan}
 use Rattle.uf_command.specs.declared.types.Refusal.{Refusal}
 use Rattle.uf_command.specs.declared.types.Refusal.TheVariants as refusal
 use Rattle.uf_top.specs.Foreign.{FindsShape, FindsTree, IsOfReading, IsOwnRefusal, IsTreeIn, LeadsTo}
-use Rattle.uf_top.specs.Grafts.{BuildsPlanned, FollowsOr, IsFailingRefusal, IsLostBy, PutsTree, TouchesUp, adopt_refusal, graft_kinds, put_tree}
+use Rattle.uf_top.specs.Grafts.{BuildsPlanned, FollowsOr, IsFailingRefusal, IsLostBy, IsOkFor, PutsTree, TouchesUp, adopt_refusal, graft_kinds, put_tree}
 use Rattle.uf_top.specs.Naming.{TellsBlocks}
+use Rattle.uf_top.specs.Saving.{SavesNoOther, adopted_blocks, put_blocks}
 use Rattle.uf_top.proofs.Cats.{below-fault, way-fault}
-use Rattle.uf_top.proofs.Putting.{failing-lost, follows-then, ok-for, ok-value, stops-then}
+use Rattle.uf_top.specs.Losing.{placing_needs}
+use Rattle.uf_top.proofs.Putting.{failing-lost, follows-more, follows-then, lost-behind, needs_at_spot, ok-for, ok-value, rule-ok, stops-then}
 
 -- ---- kinds
 
@@ -273,10 +280,10 @@ module _ (X : List ℕ → List ℕ) (N : List ℕ → ℕ) (source : DagPath) (
   after_tree t p es = grafted X N (adopted_name source) t dest p es
 
   -- the path leads to no tree
-  pub nothing-found : (a m : Seen) (why : Refusal) → TellsBlocks a.told held → ByGoodBlocks X a.told (λ held. FindsTree held source (Err why)) → Shown X NoneIsBad (fault_behind why) a m → PutsTree X N was is (adopted X N held source dest) (Err why) a m
+  pub nothing-found : (a m : Seen) (why : Refusal) → TellsBlocks a.told held → ByGoodBlocks X a.told (λ held. FindsTree held source (Err why)) → Shown X NoneIsBad (fault_behind why) a m → PutsTree X N was is (placing_needs X N dest (Some (adopted_name source))) (adopted X N held source dest) (Err why) a m
   nothing-found a m why tells found shown = λ p es same over.
-      stops-then IsOwnRefusal (IsLostBy a.told (blocks X N p (Dir es))) (by_dag source (tree_at held source)) (λ t. grafted X N (adopted_name source) t dest p es) why
-      (λ own. failing-lost X a.told (blocks X N p (Dir es)) a m why (own-failing why own) shown over.calm) (found-in (λ held. FindsTree held source (Err why)) X a.told held held tells (has-itself X held) found)
+      stops-then IsOwnRefusal (IsLostBy a.told (placing_needs X N dest (Some (adopted_name source)) p es)) (by_dag source (tree_at held source)) (λ t. grafted X N (adopted_name source) t dest p es) why
+      (λ own. failing-lost X a.told (placing_needs X N dest (Some (adopted_name source)) p es) a m why (own-failing why own) shown over.calm) (found-in (λ held. FindsTree held source (Err why)) X a.told held held tells (has-itself X held) found)
 
   module _ (a m : Seen) (same : m.told ≡ a.told) (cid : Cid) (tells : TellsBlocks a.told held)
       (found : ByGoodBlocks X a.told (λ held. FindsTree held source (Ok cid))) where
@@ -299,25 +306,50 @@ module _ (X : List ℕ → List ℕ) (N : List ℕ → ℕ) (source : DagPath) (
     stands_there : (c : Seen) (p : Profile) (es : Entries) → was.profile ≡ p → IsFolderOver X N p a c [] was.root es → StandsOver X N m.told was p es
     stands_there c p es profile over = record { profile_is = profile; root = record { plan = over.plan; agrees = subst (λ t. Agrees t (blocks X N p (Dir es))) (sym same) over.stays.first } }
 
+    -- what is saved of it at the spot that is found
+    pub adopted-saved : (b c : Seen) (again : b.told ≡ m.told) (spot : Spot) (p : Profile) (es : Entries) → by_rule (spotted dest (Some (adopted_name source)) es) ≡ Ok spot
+        → ((held : Lookup) (t : Tree) → HoldsGoodMap X held b.told → denotes held usual_limits cid ≡ Ok t → SavesNoOther X (put_blocks X N (Ok spot) (t ∷ []) p es) b.told c.told)
+        → SavesNoOther X (adopted_blocks X N (tree_at held source) source dest p es) a.told c.told
+    adopted-saved b c again spot p es at saves =
+        let good = subst (λ (u : Told). HoldsGoodMap X (good_blocks X held) u) (sym (again ∙ same)) (good-map X a.told held tells) in
+        subst (λ (r : Result Tree DagFault). SavesNoOther X (adopted_blocks X N r source dest p es) a.told c.told) (sym there.leads)
+        (subst (λ (r : Result Spot Refusal). SavesNoOther X (put_blocks X N r (there.tree ∷ []) p es) a.told c.told) (sym at)
+        (subst (λ (u : Told). SavesNoOther X (put_blocks X N (Ok spot) (there.tree ∷ []) p es) u c.told) (again ∙ same) (saves (good_blocks X held) there.tree good good_denotes)))
+
     -- no spot is found
     pub nowhere : (b : Seen) (why : Refusal)
-        → ((p : Profile) (es : Entries) → StandsOver X N m.told was p es → Stood m.faults b.faults → FollowsOr (IsLostBy m.told (blocks X N p (Dir es))) (λ (spot given : Spot). given ≡ spot) (by_rule (spotted dest (Some (adopted_name source)) es)) (Err why))
-        → ((c : ℕ) → Stood a.faults c → Stood m.faults c) → PutsTree X N was is (adopted X N held source dest) (Err why) a b
+        → ((p : Profile) (es : Entries) → StandsOver X N m.told was p es → Stood m.faults b.faults → FollowsOr (IsLostBy m.told (placing_needs X N dest (Some (adopted_name source)) p es)) (λ (spot given : Spot). given ≡ spot) (by_rule (spotted dest (Some (adopted_name source)) es)) (Err why))
+        → ((c : ℕ) → Stood a.faults c → Stood m.faults c) → PutsTree X N was is (placing_needs X N dest (Some (adopted_name source))) (adopted X N held source dest) (Err why) a b
     nowhere b why finds back = λ p es profile over.
-        leads_on (Unit {0}) (λ fs done. StandsAfter X N a.told b.told (blocks X N p (Dir es)) is p fs) (IsLostBy a.told (blocks X N p (Dir es))) p es (Err why)
-        (stops-then (IsLostBy m.told (blocks X N p (Dir es))) (IsLostBy a.told (blocks X N p (Dir es))) (by_rule (spotted dest (Some (adopted_name source)) es)) (λ spot. put_tree X N spot there.tree p es) why
-        (λ lost. subst (λ t. IsLostBy t (blocks X N p (Dir es)) why) same lost) (finds p es (stands_there b p es profile over) (back b.faults over.calm.faults)))
+        leads_on (Unit {0}) (λ fs done. StandsAfter X N a.told b.told (blocks X N p (Dir es)) is p fs) (IsLostBy a.told (placing_needs X N dest (Some (adopted_name source)) p es)) p es (Err why)
+        (stops-then (IsLostBy m.told (placing_needs X N dest (Some (adopted_name source)) p es)) (IsLostBy a.told (placing_needs X N dest (Some (adopted_name source)) p es)) (by_rule (spotted dest (Some (adopted_name source)) es)) (λ spot. put_tree X N spot there.tree p es) why
+        (λ lost. subst (λ t. IsLostBy t (placing_needs X N dest (Some (adopted_name source)) p es) why) same lost) (finds p es (stands_there b p es profile over) (back b.faults over.calm.faults)))
+
+    -- the names of the spot that is found, and what a put there needs
+    spot-of : (p : Profile) (es : Entries) (spot : Spot) → (s : Spot) × (by_rule (spotted dest (Some (adopted_name source)) es) ≡ Ok s) × (spot ≡ s) → spotted dest (Some (adopted_name source)) es ≡ Ok spot
+    spot-of p es spot v = rule-ok (spotted dest (Some (adopted_name source)) es) spot (v.1 ∙ ap (λ (s : Spot). Ok s) (sym v.2))
+
+    lost-along : (told : Told) (p : Profile) (es : Entries) (spot : Spot) (why : Refusal) → spotted dest (Some (adopted_name source)) es ≡ Ok spot → IsLostBy told (needs_at_spot X N spot p es) why → IsLostBy told (placing_needs X N dest (Some (adopted_name source)) p es) why
+    lost-along told p es spot why at lost =
+        let names = put_names dest (Some (adopted_name source)) in
+        lost-behind told (root_of X N p (Dir es)) (put_needs X N p names (Dir es)) why (subst (λ ns. IsLostBy told (put_needs X N p ns (Dir es)) why) (spotted-names dest (Some (adopted_name source)) es spot at) lost)
 
     -- it is put at the spot that is found
     pub put-there : (b c : Seen) (again : b.told ≡ m.told) (spot : Spot) (r : Result (Unit {0}) Refusal) {Bad : Role → List ℕ → Type 0} → OnlyReads X Bad None a b
-        → ((p : Profile) (es : Entries) → StandsOver X N m.told was p es → Stood m.faults b.faults → FollowsOr (IsLostBy m.told (blocks X N p (Dir es))) (λ (spot given : Spot). given ≡ spot) (by_rule (spotted dest (Some (adopted_name source)) es)) (Ok spot))
+        → ((p : Profile) (es : Entries) → StandsOver X N m.told was p es → Stood m.faults b.faults → FollowsOr (IsLostBy m.told (placing_needs X N dest (Some (adopted_name source)) p es)) (λ (spot given : Spot). given ≡ spot) (by_rule (spotted dest (Some (adopted_name source)) es)) (Ok spot))
         → (Stood a.faults c.faults → Stood m.faults b.faults)
-        → ((held : Lookup) (t : Tree) → HoldsGoodMap X held b.told → denotes held usual_limits cid ≡ Ok t → PutsTree X N was is (put_tree X N spot t) r b c) → PutsTree X N was is (adopted X N held source dest) r a c
+        → ((held : Lookup) (t : Tree) → HoldsGoodMap X held b.told → denotes held usual_limits cid ≡ Ok t → PutsTree X N was is (needs_at_spot X N spot) (put_tree X N spot t) r b c) → PutsTree X N was is (placing_needs X N dest (Some (adopted_name source))) (adopted X N held source dest) r a c
     put-there b c again spot r {Bad} reads finds back puts = λ p es profile over.
-        let old = blocks X N p (Dir es) in
+        let old = blocks X N p (Dir es) in let need = (placing_needs X N dest (Some (adopted_name source)) p es) in
         let told : b.told ≡ a.told = again ∙ same in
         let v = ok-value (λ (s : Spot). spot ≡ s) (by_rule (spotted dest (Some (adopted_name source)) es)) (finds p es (stands_there c p es profile over) (back over.calm.faults)) in
-        leads_on (Unit {0}) (λ fs done. StandsAfter X N a.told c.told old is p fs) (IsLostBy a.told old) p es r
-        (follows-then (IsLostBy a.told old) (λ fs done. StandsAfter X N a.told c.told old is p fs) (by_rule (spotted dest (Some (adopted_name source)) es)) spot (λ spot. put_tree X N spot there.tree p es) r (v.1 ∙ ap (λ (s : Spot). Ok s) (sym v.2))
-        (subst (λ t. FollowsOr (IsLostBy t old) (λ fs done. StandsAfter X N t c.told old is p fs) (put_tree X N spot there.tree p es) r) told
-        (puts (good_blocks X held) there.tree (subst (HoldsGoodMap X (good_blocks X held)) (sym told) (good-map X a.told held tells)) good_denotes p es profile (read-over X N p [] was.root es reads over))))
+        leads_on (Unit {0}) (λ fs done. StandsAfter X N a.told c.told old is p fs) (IsLostBy a.told need) p es r
+        (follows-then (IsLostBy a.told need) (λ fs done. StandsAfter X N a.told c.told old is p fs) (by_rule (spotted dest (Some (adopted_name source)) es)) spot (λ spot. put_tree X N spot there.tree p es) r (v.1 ∙ ap (λ (s : Spot). Ok s) (sym v.2))
+        (follows-more (IsLostBy a.told (needs_at_spot X N spot p es)) (IsLostBy a.told need) (λ fs done. StandsAfter X N a.told c.told old is p fs) (put_tree X N spot there.tree p es) r (λ why lost. lost-along a.told p es spot why (spot-of p es spot v) lost)
+        (subst (λ t. FollowsOr (IsLostBy t (needs_at_spot X N spot p es)) (λ fs done. StandsAfter X N t c.told old is p fs) (put_tree X N spot there.tree p es) r) told
+        (puts (good_blocks X held) there.tree (subst (HoldsGoodMap X (good_blocks X held)) (sym told) (good-map X a.told held tells)) good_denotes p es profile (read-over X N p [] was.root es reads over)))))
+
+-- a spot that is found is there
+pub spot-there : (w : Result Spot Rule) (spot : Spot) → IsOkFor (λ (s : Spot). spot ≡ s) (by_rule w) → IsErr w → ⊥
+spot-there (Ok s) spot h nowhere = (let e : false ≡ true = nowhere in cc)
+spot-there (Err rule) spot h nowhere = h

@@ -319,7 +319,7 @@ module _ (X : List ℕ → List ℕ) (N : List ℕ → ℕ) where
   -- ---- how it is done
 
   -- where nothing was written, nothing was added
-  trees-same : (recursive only_hash : Bool) (path : List ℕ) (given : Status) (a b : Told) (host : HostTold) (left : streams.Told) → b ≡ a → KeptFor X N (Add (adding.Host recursive only_hash path)) given a b host left
+  trees-same : (recursive only_hash : Bool) (path : List ℕ) (given : Status) (a b : Seen) (host : HostTold) (left : streams.Told) → b.told ≡ a.told → KeptFor X N (Add (adding.Host recursive only_hash path)) given a b host left
   trees-same recursive true path given a b host left e = tt
   trees-same recursive false path given a b host left e = inl e
 
@@ -336,7 +336,7 @@ module _ (X : List ℕ → List ℕ) (N : List ℕ → ℕ) where
           kinds = head-kind a.told why end;
           ready = head-ready a.told recursive only_hash path why end;
           adds = tt;
-          kept = trees-same recursive only_hash path (status_of why) a.told m.told side.told l told;
+          kept = trees-same recursive only_hash path (status_of why) a m side.told l told;
           reads = counts-still i;
           host = head-reads a.told why side end;
           rows = tt;
@@ -344,7 +344,7 @@ module _ (X : List ℕ → List ℕ) (N : List ℕ → ℕ) where
           whole = λ s stands calm. host-finds (Err why) (head-kind a.told why end);
           touches = λ p es bytes rows named input heights calm. from-touch recursive only_hash path bytes X N rows p es t0;
           touched = λ blames. absurd (host-blames (Err why) (head-kind a.told why end) blames);
-          unready = λ or_none e is. record { told = told; left = refl; reads = refl };
+          unready = λ e is. record { told = told; left = refl; reads = refl };
           unplaced = λ p es names stood none. absurd none;
           leaves = record { good = KeepsGood-same X a.told m.told told; head = ap head_in told; writes = from-same X recursive only_hash path a.told m.told told; idle = λ p es bytes stands calm same. absurd cc };
         }
@@ -366,7 +366,7 @@ module _ (X : List ℕ → List ℕ) (N : List ℕ → ℕ) where
       whole = λ s stands calm2. host-finds (Err (refusal.Ready ready.NoHead)) refl;
       touches = λ p es bytes rows named input heights calm2. tt;
       touched = λ blames. absurd blames;
-      unready = λ or_none e is. record { told = told; left = refl; reads = refl };
+      unready = λ e is. record { told = told; left = refl; reads = refl };
       unplaced = λ p es names stood none. absurd none;
       leaves = record { good = KeepsGood-same X a.told m.told told; head = ap head_in told; writes = from-same X recursive false path a.told m.told told; idle = λ p es bytes stands calm same. absurd cc };
     }
@@ -404,7 +404,7 @@ module _ (X : List ℕ → List ℕ) (N : List ℕ → ℕ) where
             whole = λ s stands calm2. host-finds r kinds;
             touches = λ q es bytes rows named input heights calm2. tt;
             touched = λ blames. absurd (host-blames r kinds blames);
-            unready = λ or_none e is. absurd (text-unready p b.told side.told recursive path r text is);
+            unready = λ e is. absurd (text-unready p b.told side.told recursive path r text is);
             unplaced = λ p es names stood none. absurd none;
             leaves = record { good = keeps; head = stays-same r a.told b.told head; writes = written; idle = λ q es bytes stands calm same. absurd cc };
           }
@@ -438,7 +438,7 @@ module _ (X : List ℕ → List ℕ) (N : List ℕ → ℕ) where
             whole = λ s stands calm2. host-finds r kinds;
             touches = λ q es bytes rows named input heights calm2. no-touch (Some 0) t0;
             touched = λ blames. absurd (host-blames r kinds blames);
-            unready = λ or_none e is. absurd (text-unready p None side.told recursive path r text is);
+            unready = λ e is. absurd (text-unready p None side.told recursive path r text is);
             unplaced = λ p es names stood none. absurd none;
             leaves = record { good = KeepsGood-same X a.told m.told told; head = stays-same r a.told m.told (ap head_in told); writes = told; idle = λ q es bytes stands calm same. absurd cc };
           }

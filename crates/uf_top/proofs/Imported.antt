@@ -317,7 +317,7 @@ module _ (X : List ℕ → List ℕ) (N : List ℕ → ℕ) (a b : Seen) (l m : 
         whole = λ s needs stands calm. absurd cc;
         touches = λ p es bytes rows named input heights calm. tt;
         touched = λ blames. absurd (of.blames blames);
-        unready = λ or_none e is. absurd cc;
+        unready = λ e is. absurd cc;
         unplaced = λ p es names stood none. absurd none;
         leaves = record { good = k.good; head = head; writes = subst (λ d. WritesAs X SyncsBlocks d a.told b.told) (sym quiet.undone) k.writes; idle = λ p es bytes stands calm is. absurd cc };
       }
@@ -363,7 +363,7 @@ module _ (X : List ℕ → List ℕ) (N : List ℕ → ℕ) (a b : Seen) (l m : 
       whole = λ s needs stands calm. absurd cc;
       touches = λ p es bytes rows named input heights calm. tt;
       touched = λ blames. absurd blames;
-      unready = λ or_none e is. absurd cc;
+      unready = λ e is. absurd cc;
       unplaced = λ p es names stood none. absurd none;
       leaves = record { good = k.good; head = tt; writes = k.writes; idle = λ p es bytes stands calm is. absurd cc };
     }
@@ -392,13 +392,13 @@ module _ (X : List ℕ → List ℕ) (N : List ℕ → ℕ) (a b : Seen) (l m : 
       host = refl;
       gets = tt;
       pins = tt;
-      kept = kept-by X N Import status.Ok status.WriteFault a.told b.told side.told l (λ e. cc) (λ e. cc) k.kept;
+      kept = kept-by X N Import status.Ok status.WriteFault a b side.told l (λ e. cc) (λ e. cc) k.kept;
       writes = record { rose = c.counts.rose; still = c.counts.still };
       cause = k.cause;
       whole = λ s needs stands calm. absurd cc;
       touches = λ p es bytes rows named input heights calm. tt;
       touched = λ blames. absurd blames;
-      unready = λ or_none e is. absurd cc;
+      unready = λ e is. absurd cc;
       unplaced = λ p es names stood none. absurd none;
       leaves = record { good = k.good; head = head-same; writes = k.writes; idle = λ p es bytes stands calm is. absurd cc };
     }

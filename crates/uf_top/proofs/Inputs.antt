@@ -49,7 +49,7 @@ add-same X true a b e = e
 add-same X false a b e = record { between = a; saves = SavesOnly-refl X a; last = Same e }
 
 -- and has added nothing
-file-same : (X : List ℕ → List ℕ) (N : List ℕ → ℕ) (only_hash : Bool) (given : Status) (a b : Told) (host : HostTold) (left : streams.Told) → b ≡ a → KeptFor X N (Add (adding.Input only_hash)) given a b host left
+file-same : (X : List ℕ → List ℕ) (N : List ℕ → ℕ) (only_hash : Bool) (given : Status) (a b : Seen) (host : HostTold) (left : streams.Told) → b.told ≡ a.told → KeptFor X N (Add (adding.Input only_hash)) given a b host left
 file-same X N true given a b host left e = tt
 file-same X N false given a b host left e = inl e
 
@@ -76,7 +76,7 @@ module _ (X : List ℕ → List ℕ) (hash : IsHash X) (N : List ℕ → ℕ) (a
     kinds = read-kinds why a.told read;
     ready = read-ready only_hash a.told why read;
     adds = adds-read X only_hash a.told m.told why l l read;
-    kept = file-same X N only_hash (status_of why) a.told m.told side.told l told;
+    kept = file-same X N only_hash (status_of why) a m side.told l told;
     reads = head-counts why a.told i read;
     host = refl;
     rows = tt;
@@ -84,7 +84,7 @@ module _ (X : List ℕ → List ℕ) (hash : IsHash X) (N : List ℕ → ℕ) (a
     touches = λ p es bytes rows named input heights calm. no-touch (command_touches X N rows bytes (Add (adding.Input only_hash)) p es) t0;
     whole = λ s stands calm. add-whole (Err why) (read-kinds why a.told read);
     touched = λ blames. absurd (add-blames (Err why) (read-kinds why a.told read) blames);
-    unready = λ or_none e is. record { told = told; left = refl; reads = refl };
+    unready = λ e is. record { told = told; left = refl; reads = refl };
     unplaced = λ p es names stood none. absurd none;
     leaves = record { good = KeepsGood-same X a.told m.told told; head = ap head_in told; writes = add-same X only_hash a.told m.told told; idle = λ p es bytes stands calm same. told };
   }
@@ -105,7 +105,7 @@ module _ (X : List ℕ → List ℕ) (hash : IsHash X) (N : List ℕ → ℕ) (a
     touches = λ p es bytes rows named input heights calm2. tt;
     whole = λ s stands calm2. add-whole (Err (refusal.Ready ready.NoHead)) refl;
     touched = λ blames. absurd blames;
-    unready = λ or_none e is. record { told = told; left = refl; reads = refl };
+    unready = λ e is. record { told = told; left = refl; reads = refl };
     unplaced = λ p es names stood none. absurd none;
     leaves = record { good = KeepsGood-same X a.told m.told told; head = ap head_in told; writes = add-same X false a.told m.told told; idle = λ p es bytes stands calm same. told };
   }
@@ -142,7 +142,7 @@ module _ (X : List ℕ → List ℕ) (hash : IsHash X) (N : List ℕ → ℕ) (a
           touches = λ q es bytes rows named input heights calm2. tt;
           whole = λ s stands calm2. add-whole r (row-kinds X p b.told r l k row);
           touched = λ blames. absurd (add-blames r (row-kinds X p b.told r l k row) blames);
-          unready = λ or_none e is. absurd (row-unready X p b.told r l k row is);
+          unready = λ e is. absurd (row-unready X p b.told r l k row is);
           unplaced = λ p es names stood none. absurd none;
           leaves = record { good = good; head = stays-same r a.told b.told head; writes = written; idle = λ q es bytes stands calm same. absurd cc };
         }
@@ -174,7 +174,7 @@ module _ (X : List ℕ → List ℕ) (hash : IsHash X) (N : List ℕ → ℕ) (a
           touches = λ q es bytes rows named input heights calm2. no-touch (Some 0) t0;
           whole = λ s stands calm2. add-whole r (row-kinds X p None r l k row);
           touched = λ blames. absurd (add-blames r (row-kinds X p None r l k row) blames);
-          unready = λ or_none e is. absurd (row-unready X p None r l k row is);
+          unready = λ e is. absurd (row-unready X p None r l k row is);
           unplaced = λ p es names stood none. absurd none;
           leaves = record { good = KeepsGood-same X a.told m.told told; head = stays-same r a.told m.told (ap head_in told); writes = told; idle = λ q es bytes stands calm same. told };
         }

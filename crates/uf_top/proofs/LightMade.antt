@@ -1,6 +1,6 @@
 -- How a light proof is made of the tree that the Head names.
-use Rattle.std.proofs.Common.{◌≡◌, ◌≢◌, ◌⊎◌, ℕ, ◌<◌, ◌+◌, List, ◌++◌, length, Bool, true, false, arith, refl, sym, ap, subst, ◌∙◌, inl, inr, None, Some, Result, Ok, Err}
-use Rattle.std.specs.Prelude.{IfErr, IsOk, ⊤}
+use Rattle.std.proofs.Common.{◌≡◌, ◌≢◌, ◌⊎◌, ℕ, ◌<◌, ◌≤◌, ◌+◌, List, ◌++◌, length, Bool, true, false, arith, refl, sym, ap, subst, ◌∙◌, inl, inr, None, Some, Result, Ok, Err}
+use Rattle.std.specs.Prelude.{IfErr, IsOk, IsTrue, ⊤}
 use Rattle.uf_cid.specs.Blocks.{Held}
 use Rattle.uf_edge.specs.Counts.{Counts, Stood}
 use Rattle.uf_edge.specs.Streams.{after, AppendsPrefix}
@@ -10,6 +10,7 @@ use Rattle.uf_light.specs.Answers.{Proves, RefusesLight, is_light_sink, light_fa
 use Rattle.uf_light.specs.Bad.{IsBadLight, IsBadOnPath, IsBadThere}
 use Rattle.uf_light.specs.Bad as paths
 use Rattle.uf_light.specs.Light.{HasHeight, light_says, light_text, proof_of}
+use Rattle.uf_light.specs.Needs.{proof_needs, proof_touches}
 use Rattle.uf_light.specs.Sending.{IsNoCar}
 use Rattle.uf_light.specs.Standing.{IsAgreedAt}
 use Rattle.uf_light.specs.Touches as touching
@@ -19,7 +20,8 @@ use Rattle.uf_mfs.specs.Answers.{ShownOpening}
 use Rattle.uf_cid.specs.declared.cid.Cid.{Cid}
 use Rattle.uf_mfs.specs.Bad.{IsBad, IsBadInHead, IsBadInTree}
 use Rattle.uf_mfs.specs.Bad as trees
-use Rattle.uf_mfs.specs.Reading.{CanRise}
+use Rattle.uf_light.proofs.Needed.{needs-among, proves-among, same-shown}
+use Rattle.uf_mfs.specs.Reading.{AreHeights, CanRise}
 use Rattle.uf_mfs.specs.Standing.{NamesOver, Opens, OpensOver, ReadsHead, StandsOver, TellsAs, TellsHeld, head_in}
 use Rattle.uf_mfs.specs.Steps.{tree_fault}
 use Rattle.uf_mfs.specs.Touches.{CountsUp, IsBlaming}
@@ -30,8 +32,9 @@ use Rattle.uf_mfs.proofs.Holding.{loss-back, loss-fault}
 use Rattle.uf_mfs.proofs.Ranges.{stood-calm}
 use Rattle.uf_path.specs.declared.path.Path.{Path}
 use Rattle.uf_plain.specs.Edits.{at}
-use Rattle.uf_plain.specs.Needs.{root_of}
+use Rattle.uf_plain.specs.Needs.{root_of, way}
 use Rattle.uf_plain.specs.Rules.{rule_of}
+use Rattle.uf_plain.specs.declared.rule.Refused.{Refused}
 use Rattle.uf_plain.specs.declared.rule.Refused.TheVariants as why
 use Rattle.uf_plain.specs.declared.rule.Rule.{Rule}
 use Rattle.uf_store.specs.Contents.{Told}
@@ -45,7 +48,8 @@ use Rattle.uf_store.proofs.Calls.{shown-after, shown-by, shown-rises, stood-back
 use Rattle.uf_store.proofs.Causes.{calm-memory}
 use Rattle.uf_store.proofs.Keeping.{KeepsGood-same}
 use Rattle.uf_tree.specs.Standing.{Standing, NoHead, BadHead, Stands}
-use Rattle.uf_tree.specs.Tree.{Dir, Entries, Tree}
+use Rattle.uf_tree.specs.Profiles.{is_profile}
+use Rattle.uf_tree.specs.Tree.{Dir, Entries, File, Tree}
 use Rattle.uf_tree.specs.TreePlan.{blocks}
 use Rattle.uf_tree.specs.declared.nodes.Entry.{Entry}
 use Rattle.uf_tree.specs.declared.profile.Profile.{Profile}
@@ -62,13 +66,13 @@ use Rattle.uf_top.specs.Around.{HostSide, RisesFor, SinkSide, around}
 use Rattle.uf_top.specs.Causes.{IsBadIn, IsReadyBy, RefusesOpening, is_write}
 use Rattle.uf_top.specs.Endings.{EndsBy, FindsAll, PrintsPart, RuleOf}
 use Rattle.uf_top.specs.Light.{EndsLight, IsLightTold, height_found, light_refusal, proof_told}
-use Rattle.uf_top.specs.Losing.{DoesOver}
+use Rattle.uf_top.specs.Losing.{DoesOver, rows_found}
 use Rattle.uf_top.specs.Naming.{NamesAfter, NamesAs}
 use Rattle.uf_top.specs.Reply.{in_tree, prove_reply, unchanged}
 use Rattle.uf_top.specs.Shapes.{WritesAs, is_done}
 use Rattle.uf_top.specs.Working.{Does, Makes}
 use Rattle.uf_top.proofs.Classed.{opening-kinds, tree-counts}
-use Rattle.uf_top.proofs.FileSent.{BySink, ByRule, ByStore, SentKind, Whole, if-err, none-printed, sent-kinds, sent-prints, sent-ready, sent-reads}
+use Rattle.uf_top.proofs.FileSent.{BySink, ByRule, ByStore, SentKind, Whole, height-of, if-err, none-printed, sent-kinds, sent-prints, sent-ready, sent-reads}
 use Rattle.uf_top.proofs.InTree.{not-opened, opening-ready}
 use Rattle.uf_top.proofs.Losing.{names-of, names-same, opening-over}
 use Rattle.uf_top.proofs.Printing.{of-no-host, refused-does}
@@ -281,6 +285,12 @@ agreed-of X N told found p es at = record {
   agrees = at.root.agrees;
 }
 
+-- the rows of a file are its height
+rows-tall : (p : Profile) (rows : ℕ → ℕ) (w : Result Tree Refused) → IsTrue (is_profile p) → AreHeights p rows → HasHeight p (rows_found rows w) w
+rows-tall p rows (Ok (File m bytes)) ok heights = height-of p rows (Ok (File m bytes)) ok heights
+rows-tall p rows (Ok (Dir es)) ok heights = tt
+rows-tall p rows (Err why) ok heights = tt
+
 held-of : (X : List ℕ → List ℕ) (N : List ℕ → ℕ) (told : Told) (p : Profile) (es : Entries) → TellsAs X N told (Stands p es) → TellsHeld told (blocks X N p (Dir es))
 held-of X N None p es stands = absurd stands
 held-of X N (Some t) p es stands = stands.blocks_held
@@ -290,9 +300,9 @@ module _ (X : List ℕ → List ℕ) (N : List ℕ → ℕ) (absent : Bool) (pat
 
   pub prove-unopened : (f : MfsFault) (why : Refusal) → RefusesOpening f why → ((s : Standing) → TellsAs X N a.told s → Stood a.faults m.faults → Opens X N m.told s (Err f))
       → ((p : Profile) (es : Entries) → NamesOver X N a.told p es → Stood a.faults m.faults → OpensOver X N a.told p es (Err f))
-      → ReadsHead a.told (Err f) → CountsUp (tree_fault {A = Mfs} (Err f)) t0 t1 → ShownOpening X (IsBadInHead X N a.told) {A = Mfs} (Err f) a m
+      → ReadsHead a.told (Err f) → t1 ≤ t0 + 1 → CountsUp (tree_fault {A = Mfs} (Err f)) t0 t1 → ShownOpening X (IsBadInHead X N a.told) {A = Mfs} (Err f) a m
       → Does X N (Prove absent path) (Err why) (around a l i h w t0 side er) (around m l i h w t1 side er2)
-  prove-unopened f why is opens lost head up cause = refused-does X N (Prove absent path) refl a m l l i i t0 t1 h w side side er er2 why makes
+  prove-unopened f why is opens lost head most up cause = refused-does X N (Prove absent path) refl a m l l i i t0 t1 h w side side er er2 why makes
     where
       whole : (s : Standing) → Answers X N s (in_tree (prove_reply X N absent path.names) s) (Err why) m.told → Opens X N m.told s (Err f) → FindsAll (status_of why)
       whole s given h = by f why is s h
@@ -309,7 +319,7 @@ module _ (X : List ℕ → List ℕ) (N : List ℕ → ℕ) (absent : Bool) (pat
       makes = record {
         answers = λ world stands input calm. not-opened X N world.standing (prove_reply X N absent path.names) f why m.told is (opens world.standing stands calm.faults) (stands-same X N a.told m.told world.standing told stands);
         lost = λ p es rows held bytes named input calm.
-            opening-over X N a.told m.told p es (blocks X N p (Dir es)) (prove_reply X N absent path.names p es) f why is (lost p es named.names calm.faults)
+            opening-over X N a.told m.told p es (proof_needs X N p (rows_found rows (at 0 path.names (Dir es))) absent path.names (Dir es)) (prove_reply X N absent path.names p es) f why is (lost p es named.names calm.faults)
             (names-same X N a.told m.told p es told named);
         kinds = opening-kinds f why is;
         ready = ready-prove absent path a.told why (opening-ready a.told Stat path f why is head);
@@ -319,10 +329,10 @@ module _ (X : List ℕ → List ℕ) (N : List ℕ → ℕ) (absent : Bool) (pat
         host = refl;
         rows = tt;
         cause = Shown-opening Mfs X (IsBadInHead X N a.told) (IsBadIn X N a.told m.told) (bad-of-none X N a.told m.told) f why a m is cause;
-        touches = λ p es bytes rows named input heights calm. tt;
+        touches = λ p es bytes rows named input heights calm. omega (arith, most);
         whole = λ s stands calm. (let o = opens s stands calm.faults in whole s (not-opened X N s (prove_reply X N absent path.names) f why m.told is o (stands-same X N a.told m.told s told stands)) o);
         touched = (opening-touched Mfs f why t0 t1 is up).risen;
-        unready = λ or_none e is. record { told = told; left = refl; reads = refl };
+        unready = λ e is. record { told = told; left = refl; reads = refl };
         unplaced = λ p es names stood none. absurd none;
         leaves = record { good = KeepsGood-same X a.told m.told told; head = ap head_in told; writes = told; idle = λ p es bytes stands calm same. absurd cc };
       }
@@ -331,14 +341,15 @@ module _ (X : List ℕ → List ℕ) (N : List ℕ → ℕ) (absent : Bool) (pat
 
   module _ (found : Mfs) (opens : (s : Standing) → TellsAs X N a.told s → Stood a.faults m.faults → Opens X N m.told s (Ok found))
       (over : (p : Profile) (es : Entries) → NamesOver X N a.told p es → Stood a.faults m.faults → OpensOver X N a.told p es (Ok found))
-      (head : ReadsHead a.told (Ok found)) (up : CountsUp None t0 t1) (calm : StaysCalm a m)
+      (head : ReadsHead a.told (Ok found)) (most : t1 ≤ t0 + 1) (up : CountsUp None t0 t1) (calm : StaysCalm a m)
       (b : Seen) (h2 : streams.Told) (w2 t2 : ℕ) (r : Result ℕ LightFault) (done : Result (Unit {0}) Refusal) (ends : EndsLight path.names r done) (own : IfErr r IsNoCar)
       (proves : (p : Profile) (t : Tree) (height : ℕ) → IsAgreedAt X N m.told p found.root.cid t → Stood m.faults b.faults → HasHeight p height (at 0 path.names t)
-      → Proves m.told (blocks X N p t) (light_text X N p height path.names t) (light_says absent path.names (at 0 path.names t)) r h h2)
+      → Proves m.told (proof_needs X N p height absent path.names t) (light_text X N p height path.names t) (light_says absent path.names (at 0 path.names t)) r h h2)
       (prefix : (p : Profile) (t : Tree) (height : ℕ) → IsAgreedAt X N m.told p found.root.cid t → CanRise m.faults → HasHeight p height (at 0 path.names t)
       → AppendsPrefix (proof_of (light_says absent path.names (at 0 path.names t)) (light_text X N p height path.names t)) h h2)
       (bytes : List ℕ) (sends : h2 ≡ after h bytes) (cause : Shown X (IsBadLight X N m.told found.root.cid) (light_fault r) m b) (told2 : b.told ≡ m.told)
-      (counts : Counts (is_light_sink r) w w2) (touched : touching.IsBlaming (light_fault r) → t1 < t2) where
+      (counts : Counts (is_light_sink r) w w2) (touched : touching.IsBlaming (light_fault r) → t1 < t2)
+      (few : (p : Profile) (t : Tree) (height : ℕ) → IsAgreedAt X N m.told p found.root.cid t → Stood m.faults b.faults → HasHeight p height (at 0 path.names t) → t2 ≤ t1 + proof_touches X N p height absent path.names t) where
     same : b.told ≡ a.told
     same = told2 ∙ told
 
@@ -365,8 +376,22 @@ module _ (X : List ℕ → List ℕ) (N : List ℕ → ℕ) (absent : Bool) (pat
       abbrev Says : Result (List ℕ) LightFault
       Says = light_says absent path.names (at 0 path.names (Dir es))
 
+      abbrev Needs : ℕ → List Held
+      Needs height = proof_needs X N p height absent path.names (Dir es)
+
+      needs-at : StandsOver X N m.told found p es → Stood m.faults b.faults → Proves m.told (Needs (height_found p (at 0 path.names (Dir es)))) Text Says r h h2
+      needs-at opened stood = proves p (Dir es) _ (agreed-of X N m.told found p es opened) stood (found-tall p (at 0 path.names (Dir es)) opened.root.plan.profile)
+
+      -- whatever rows the file is said to have
+      needs-by : (height : ℕ) → HasHeight p height (at 0 path.names (Dir es)) → StandsOver X N m.told found p es → Stood m.faults b.faults → Proves m.told (Needs height) Text Says r h h2
+      needs-by height tall opened stood =
+          subst (λ (l : List Held). Proves m.told (way X N p path.names (Dir es) ++ l) Text Says r h h2)
+          (same-shown X N p (height_found p (at 0 path.names (Dir es))) height absent (at 0 path.names (Dir es)) (found-tall p (at 0 path.names (Dir es)) opened.root.plan.profile) tall) (needs-at opened stood)
+
       proves-at : StandsOver X N m.told found p es → Stood m.faults b.faults → Proves m.told (blocks X N p (Dir es)) Text Says r h h2
-      proves-at opened stood = proves p (Dir es) _ (agreed-of X N m.told found p es opened) stood (found-tall p (at 0 path.names (Dir es)) opened.root.plan.profile)
+      proves-at opened stood =
+          proves-among m.told (Needs (height_found p (at 0 path.names (Dir es)))) (blocks X N p (Dir es)) Text Says r h h2
+          (needs-among X N p (height_found p (at 0 path.names (Dir es))) absent path.names (Dir es) found.root.cid (agreed-of X N m.told found p es opened).plan (found-tall p (at 0 path.names (Dir es)) opened.root.plan.profile)) (needs-at opened stood)
 
       front-at : StandsOver X N m.told found p es → CanRise m.faults → AppendsPrefix (proof_of Says Text) h h2
       front-at opened room = prefix p (Dir es) _ (agreed-of X N m.told found p es opened) room (found-tall p (at 0 path.names (Dir es)) opened.root.plan.profile)
@@ -391,9 +416,10 @@ module _ (X : List ℕ → List ℕ) (N : List ℕ → ℕ) (absent : Bool) (pat
     proves-does = record {
       answers = λ world finds input quiet. of-no-host (ok-answer world.standing finds.stands quiet.store.faults (not-sink w w2 r counts quiet.written.output));
       lost = λ p es rows held outside named tells heights input quiet.
-          let stood = quiet.store.faults in
-          answered-over X N path.names h h2 (Text p es) (Says p es) r done ends own a.told b.told p es (root_of X N p (Dir es)) (blocks X N p (Dir es)) (names-same X N a.told b.told p es same named)
-          (subst (λ t. Proves t (blocks X N p (Dir es)) (Text p es) (Says p es) r h h2) told (proves-at p es (opened-over p es named.names (front stood)) (back stood)))
+          let stood = quiet.store.faults in let opened = opened-over p es named.names (front stood) in
+          let height = rows_found rows (at 0 path.names (Dir es)) in
+          answered-over X N path.names h h2 (Text p es) (Says p es) r done ends own a.told b.told p es (root_of X N p (Dir es)) (Needs p es height) (names-same X N a.told b.told p es same named)
+          (subst (λ t. Proves t (Needs p es height) (Text p es) (Says p es) r h h2) told (needs-by p es height (rows-tall p rows (at 0 path.names (Dir es)) opened.root.plan.profile heights) opened (back stood)))
           (not-sink w w2 r counts quiet.written.output);
       unprinted = λ world after. absurd cc;
       unprinted_over = λ p es held outside after. absurd cc;
@@ -412,9 +438,13 @@ module _ (X : List ℕ → List ℕ) (N : List ℕ → ℕ) (absent : Bool) (pat
           (shown-by X (IsBadLight X N m.told found.root.cid) (IsBadIn X N a.told b.told) (refusal_fault done) m b
           (λ role block bad. bad-of role block (subst (λ t. IsBadLight X N t found.root.cid role block) told bad)) (proof-shown path.names X (IsBadLight X N m.told found.root.cid) m b w w2 t1 t2 r done ends own cause));
       whole = λ s needs stands quiet. finds s stands quiet.faults;
-      touches = λ p es input rows named given heights quiet. tt;
+      touches = λ p es input rows named given heights quiet.
+          let opened = opened-over p es named.names (front quiet.faults) in
+          let more =
+          few p (Dir es) (rows_found rows (at 0 path.names (Dir es))) (agreed-of X N m.told found p es opened) (back quiet.faults) (rows-tall p rows (at 0 path.names (Dir es)) opened.root.plan.profile heights) in
+          omega (arith, most, more);
       touched = λ blames. (let k = up.kept in let more = proof-touched path.names X (IsBadLight X N m.told found.root.cid) m b w w2 t1 t2 r done ends own touched blames in omega (arith, k, more));
-      unready = λ or_none e is. record { told = same; left = refl; reads = refl };
+      unready = λ e is. record { told = same; left = refl; reads = refl };
       unplaced = λ p es names stood none. absurd none;
       leaves = record { good = KeepsGood-same X a.told b.told same; head = if-err done _ (ap head_in same); writes = same-writes; idle = λ p es input stands calm same. absurd cc };
     }

@@ -6,15 +6,18 @@ use Rattle.uf_edge.specs.Streams as streams
 use Rattle.uf_mfs.specs.Answers.{ShownOpening}
 use Rattle.uf_mfs.specs.Bad.{IsBadInHead}
 use Rattle.uf_mfs.specs.Opening.{IsOfMaking}
+use Rattle.uf_mfs.specs.Saving.{SavesEmpty}
 use Rattle.uf_mfs.specs.Steps.{tree_fault}
 use Rattle.uf_mfs.specs.Touches.{CountsUp}
 use Rattle.uf_mfs.specs.Standing.{Commits, FindsHead, Inits, LeavesHead, NamesOver, Opens, OpensOver, ReadsHead, Same, SavesThen, StandsOver, TellsAs, head_in}
 use Rattle.uf_mfs.specs.declared.fault.MfsFault.{MfsFault}
+use Rattle.uf_mfs.specs.declared.fault.MfsFault.TheVariants as mfs
 use Rattle.uf_mfs.specs.declared.mfs.Mfs.{Mfs}
 use Rattle.uf_mfs.proofs.Counting.{counts-then}
 use Rattle.uf_mfs.proofs.Starting.{leaves-head, saves-head}
 use Rattle.uf_path.specs.declared.path.Path.{Path}
 use Rattle.uf_plain.specs.Needs.{root_of}
+use Rattle.uf_plain.specs.declared.ready.Ready.{Ready}
 use Rattle.uf_store.specs.Contents.{Told}
 use Rattle.uf_store.specs.Faults.{NoneIsBad, StaysCalm}
 use Rattle.uf_store.specs.Keeping.{KeepsGood}
@@ -23,10 +26,14 @@ use Rattle.uf_store.proofs.Calls.{shown-after, shown-by, shown-rises, stood-back
 use Rattle.uf_store.proofs.Keeping.{KeepsGood-same}
 use Rattle.uf_store.proofs.Writing.{SavesOnly-refl}
 use Rattle.uf_tree.specs.Standing.{Standing}
-use Rattle.uf_tree.specs.Tree.{Dir, Entries}
+use Rattle.uf_tree.specs.Metas.{none}
+use Rattle.uf_tree.specs.Tree.{Dir, Entries, Nothing}
+use Rattle.uf_tree.specs.TreePlan.{blocks}
 use Rattle.uf_tree.specs.declared.profile.Profile.{Profile}
 use Rattle.uf_command.specs.Natures.{ask_writes}
 use Rattle.uf_command.specs.Kinds.{fault_behind, opened_kinds, refusal_fault}
+use Rattle.uf_command.specs.Statuses.{status_of}
+use Rattle.uf_command.specs.declared.status.Status.TheVariants as status
 use Rattle.uf_top.specs.Reply.{tree_reply}
 use Rattle.uf_command.specs.declared.types.Ask.{Ask}
 use Rattle.uf_command.specs.declared.types.Ask.TheVariants.{Ls, Stat, Edit as Edits}
@@ -36,15 +43,18 @@ use Rattle.uf_top.specs.Around.{HostSide, SinkSide, around}
 use Rattle.uf_top.specs.Causes.{HeadStays, IsBadIn, RefusesOpening}
 use Rattle.uf_edits.specs.Edits.{IsBadAsked}
 use Rattle.uf_top.specs.Losing.{AnswersOver, ask_needs}
-use Rattle.uf_top.specs.Shapes.{WritesAs, is_ok}
+use Rattle.uf_top.specs.Shapes.{WritesAs, WritesInTree, is_ok}
+use Rattle.uf_top.specs.Saving.{SavesNoOther, asked_blocks}
 use Rattle.uf_top.specs.Working.{Makes, WorksAt}
 use Rattle.uf_top.proofs.InTree.{init-ready, inits-err, inits-ok, not-opened, opened, opening-ready, stays-nothing}
 use Rattle.uf_top.proofs.Classed.{init-counts, init-kinds, opened-of, opened-ready, opening-kinds, tree-counts}
 use Rattle.uf_top.proofs.Finding.{at-whole, init-looks}
 use Rattle.uf_top.proofs.Losing.{inits-over, named-from, names-kept, names-same, not-inited, opening-over, over-more}
+use Rattle.uf_top.proofs.Saved.{can-rise-later, no-other-commits, no-other-leaves, no-other-same, no-other-then, still-stood}
+use Rattle.uf_top.proofs.Shaped.{profile-said, tree-wrote}
 use Rattle.uf_top.proofs.Shows.{Shown-opening, bad-of-head, bad-of-none, counts-still, opening-touched}
 use Rattle.uf_top.proofs.Standings.{stands-kept, stands-same}
-use Rattle.uf_top.proofs.Unready.{not-unready}
+use Rattle.uf_top.proofs.Unready.{not-unready, store-unready}
 
 -- where nothing was written, a refused ask has written what it may
 ask-same : (X : List ℕ → List ℕ) (ask : Ask) (a b : Told) → b ≡ a → WritesAs X (ask_writes ask) false a b
@@ -56,6 +66,13 @@ ask-same X (Edits edit) a b e = record { between = a; saves = SavesOnly-refl X a
 no-head-yet : (told : Told) → IfSome told (λ t. t.notes.head ≡ None) → head_in told ≡ None
 no-head-yet None h = refl
 no-head-yet (Some t) h = h
+
+-- the Head is why
+init-alone : (P : Type 0) (f : MfsFault) (why : Refusal) → RefusesOpening f why → ((r : Ready) → ◌≡◌ {A = Result Mfs MfsFault} (Err f) (Err (mfs.Ready r)) → P) → status_of why ≡ status.NotReady → P
+init-alone P (mfs.Rule rule) why is alone given = absurd is
+init-alone P (mfs.Ready r) why is alone given = alone r refl
+init-alone P mfs.Sink why is alone given = absurd is
+init-alone P (mfs.Store g) why is alone given = absurd (store-unready g (subst (λ w. status_of w ≡ status.NotReady) is given))
 
 module _ (X : List ℕ → List ℕ) (N : List ℕ → ℕ) where
   -- ---- at a path
@@ -73,7 +90,7 @@ module _ (X : List ℕ → List ℕ) (N : List ℕ → ℕ) where
       kinds = opening-kinds f why is;
       ready = opening-ready a.told ask path f why is head;
       adds = tt;
-      kept = tt;
+      kept = λ p es named can. no-other-same X (asked_blocks X N ask path.names p es) a.told m.told told;
       reads = tree-counts (Err why) reads (opening-kinds f why is);
       host = refl;
       rows = tt;
@@ -82,7 +99,7 @@ module _ (X : List ℕ → List ℕ) (N : List ℕ → ℕ) where
       whole = λ s stands calm. at-whole X N s ask path.names (Err why) m.told
           (not-opened X N s (tree_reply X N ask path.names) f why m.told is (opens s stands calm.faults) (stands-same X N a.told m.told s told stands));
       touched = (opening-touched Mfs f why t0 t1 is up).risen;
-      unready = λ or_none e is. record { told = told; left = refl; reads = refl };
+      unready = λ e is. record { told = told; left = refl; reads = refl };
       unplaced = λ p es names stood none. absurd none;
       leaves = record { good = KeepsGood-same X a.told m.told told; head = ap head_in told; writes = ask-same X ask a.told m.told told; idle = λ p es bytes stands calm same. told };
     }
@@ -108,7 +125,10 @@ module _ (X : List ℕ → List ℕ) (N : List ℕ → ℕ) where
           kinds = kinds;
           ready = opened-ready a.told (At ask path) r works.kinds;
           adds = tt;
-          kept = tt;
+          kept = λ p es named can.
+              let at = lost p es named.names (still-stood a.faults m.faults can.faults calm.faults) in
+              subst (λ t. SavesNoOther X (asked_blocks X N ask path.names p es) t b.told) told
+              (works.kept p es (subst (λ t. StandsOver X N t mfs p es) (sym told) at) (named-from X N a.told m.told b.told p es told named) (can-rise-later a m calm can));
           reads = tree-counts r reads kinds;
           host = refl;
           rows = works.text;
@@ -124,12 +144,13 @@ module _ (X : List ℕ → List ℕ) (N : List ℕ → ℕ) where
               (opens s stands (stood-front a.faults m.faults b.faults calm.faults rises.faults calm2.faults)) (stands-same X N a.told m.told s told stands)
               (λ p es at now. works.answers p es at now (record { faults = stood-back a.faults m.faults b.faults calm.faults calm2.faults; clashes = stood-back a.clashes m.clashes b.clashes calm.clashes calm2.clashes })));
           touched = (counts-then up works.touched).risen;
-          unready = λ or_none e is. absurd (not-unready opened_kinds r refl refl works.kinds is);
+          unready = λ e is. absurd (not-unready opened_kinds r refl refl works.kinds is);
           unplaced = λ p es names stood none. absurd none;
           leaves = record {
             good = subst (λ t. KeepsGood X t b.told) told works.good;
             head = subst (λ t. HeadStays r false t b.told) told works.head;
-            writes = subst (λ t. WritesAs X (ask_writes ask) (is_ok r) t b.told) told works.writes;
+            writes = tree-wrote X mfs.profile (ask_writes ask) (is_ok r) a.told b.told (profile-said a.told mfs head)
+                (subst (λ t. WritesInTree X mfs.profile (ask_writes ask) (is_ok r) t b.told) told works.writes);
             idle = λ p es bytes names given same.
                 let at = lost p es names (stood-front a.faults m.faults b.faults calm.faults rises.faults given.1) in
                 works.idle p es (subst (λ t. StandsOver X N t mfs p es) (sym told) at) (subst (λ t. NamesOver X N t p es) (sym told) names)
@@ -143,8 +164,8 @@ module _ (X : List ℕ → List ℕ) (N : List ℕ → ℕ) where
     -- the store isn't made ready
     pub init-refused : (f : MfsFault) (why : Refusal) → RefusesOpening f why
         → IfSome a.told (λ t. Stood a.faults b.faults → Stood a.clashes b.clashes → Inits X N b.told p t.notes.head (Err f))
-        → FindsHead a.told (Err f) → SavesThen X LeavesHead a.told b.told → IsOfMaking f → CountsUp (tree_fault {A = Mfs} (Err f)) t0 t1 → ShownOpening X NoneIsBad {A = Mfs} (Err f) a b → Makes X N (Init p) (Err why) (around a left reads h w t0 side er) (around b left reads h w t1 side er2)
-    init-refused f why is answer finds leaves making up cause =
+        → FindsHead a.told (Err f) → SavesThen X LeavesHead a.told b.told → SavesEmpty X N p a.told b.told (Err f) → IsOfMaking f → ((r : Ready) → ◌≡◌ {A = Result Mfs MfsFault} (Err f) (Err (mfs.Ready r)) → b.told ≡ a.told) → CountsUp (tree_fault {A = Mfs} (Err f)) t0 t1 → ShownOpening X NoneIsBad {A = Mfs} (Err f) a b → Makes X N (Init p) (Err why) (around a left reads h w t0 side er) (around b left reads h w t1 side er2)
+    init-refused f why is answer finds leaves saves making alone up cause =
         let shown = Shown-opening Mfs X NoneIsBad NoneIsBad (λ role bytes bad. bad) f why a b is cause in
         let kinds = init-kinds f why is making in
         let head = leaves-head leaves.between b.told leaves.last ∙ saves-head X a.told leaves.between leaves.saves in
@@ -158,7 +179,7 @@ module _ (X : List ℕ → List ℕ) (N : List ℕ → ℕ) where
           kinds = kinds;
           ready = init-ready a.told p f why is finds;
           adds = tt;
-          kept = tt;
+          kept = no-other-then X (blocks X N p (Dir (Nothing none))) LeavesHead a.told b.told (λ m. no-other-leaves X (blocks X N p (Dir (Nothing none))) m b.told) saves;
           reads = init-counts (Err why) reads kinds;
           host = refl;
           rows = tt;
@@ -166,7 +187,7 @@ module _ (X : List ℕ → List ℕ) (N : List ℕ → ℕ) where
           touches = λ q es bytes rows named input heights calm. tt;
           whole = λ s stands calm. init-looks (Err why) kinds;
           touched = (opening-touched Mfs f why t0 t1 is up).risen;
-          unready = λ or_none e is. absurd cc;
+          unready = λ e given. record { told = init-alone (b.told ≡ a.told) f why is alone given; left = refl; reads = refl };
           unplaced = λ p es names stood none. absurd none;
           leaves = record { good = good; head = head; writes = leaves; idle = λ q es bytes stands calm same. absurd cc };
         }
@@ -174,14 +195,15 @@ module _ (X : List ℕ → List ℕ) (N : List ℕ → ℕ) where
     -- the store is made ready
     pub is-ready : (mfs : Mfs) (text : List ℕ) → text ≡ []
         → IfSome a.told (λ t. Stood a.faults b.faults → Stood a.clashes b.clashes → Inits X N b.told p t.notes.head (Ok mfs)) → FindsHead a.told (Ok mfs)
-        → SavesThen X (Commits mfs.profile mfs.root.cid) a.told b.told → StaysCalm a b → Makes X N (Init p) (Ok text) (around a left reads h w t0 side er) (around b left reads h w t1 side er2)
-    is-ready mfs text nothing answer finds writes calm = record {
+        → SavesThen X (Commits mfs.profile mfs.root.cid) a.told b.told → SavesEmpty X N p a.told b.told (Ok mfs) → StaysCalm a b → Makes X N (Init p) (Ok text) (around a left reads h w t0 side er) (around b left reads h w t1 side er2)
+    is-ready mfs text nothing answer finds writes saves calm = record {
       answers = λ world stands input calm2. let s = world.standing in let bytes = world.input in inits-ok X N (Stood a.faults b.faults) (Stood a.clashes b.clashes) s p a.told mfs text b.told calm2.faults calm2.clashes nothing stands answer;
       lost = λ q es heights held bytes named input calm2. absurd (not-inited X N (Stood a.faults b.faults) (Stood a.clashes b.clashes) a.told b.told p q es mfs calm2.faults calm2.clashes named.names answer);
       kinds = tt;
       ready = tt;
       adds = tt;
-      kept = tt;
+      kept = no-other-then X (blocks X N p (Dir (Nothing none))) (Commits mfs.profile mfs.root.cid) a.told b.told
+          (λ m. no-other-commits X (blocks X N p (Dir (Nothing none))) mfs.profile mfs.root.cid m b.told) saves;
       reads = counts-still reads;
       host = refl;
       rows = nothing;
@@ -189,7 +211,7 @@ module _ (X : List ℕ → List ℕ) (N : List ℕ → ℕ) where
       touches = λ q es bytes rows named input heights calm2. tt;
       whole = λ s stands calm2. init-looks (Ok text) tt;
       touched = λ blames. absurd blames;
-      unready = λ or_none e is. absurd cc;
+      unready = λ e is. absurd cc;
       unplaced = λ p es names stood none. absurd none;
       leaves = record { good = good; head = stays-nothing text a.told b.told nothing; writes = (no-head-yet a.told finds, (mfs.profile, mfs.root.cid, writes)); idle = λ q es bytes stands calm same. absurd cc };
     }

@@ -68,9 +68,11 @@ use Rattle.uf_top.specs.Pins.{PinsAfter, PinsFor, PinsLeft, UnreadBy, pins_in}
 use Rattle.uf_top.specs.Reply.{Outside, World, in_world, reply}
 use Rattle.uf_top.specs.Shapes.{HeadAfter, WritesAs, is_done}
 use Rattle.uf_top.specs.Working.{Does}
+use Rattle.uf_top.proofs.Unready.{store-unready}
 use Rattle.uf_top.proofs.Cats.{own-wants}
 use Rattle.uf_top.proofs.Losing.{names-kept}
 use Rattle.uf_top.proofs.Printing.{after-nothing, nothing-printed, quiet-of, whole-printed}
+use Rattle.uf_top.proofs.Shaped.{head-after}
 use Rattle.uf_top.proofs.Shows.{counts-still, not-rose}
 
 -- ---- what is written
@@ -159,7 +161,7 @@ module _ (X : List ℕ → List ℕ) where
   shape-pins SyncsBlocks false a b other h = left-pins a b h
   shape-pins MakesHead true a b other h = after-pins a b h.1
   shape-pins MakesHead false a b other h = left-pins a b h
-  shape-pins MovesHead true a b other h = after-pins a b h
+  shape-pins MovesHead true a b other h = after-pins a b (head-after X a b h)
   shape-pins MovesHead false a b other h = left-pins a b h
   shape-pins SyncsPins done a b other h = absurd other
   shape-pins NotesPins done a b other h = absurd other
@@ -422,6 +424,15 @@ ask-kinds X A pins.List (pin.Store (fault.BadBlock c role)) a b h s = absurd h
 ask-kinds X A pins.List (pin.Store (fault.Clash c x y)) a b h s = absurd h
 ask-kinds X A pins.List (pin.Store fault.Memory) a b h s = refl
 
+-- the note of pins alone isn't ready
+bad-pins : (f : PinFault) → status_of (pin_refusal f) ≡ status.NotReady → f ≡ pin.BadPins
+bad-pins pin.BadPins is = refl
+bad-pins pin.TooManyPins is = absurd cc
+bad-pins (pin.NotPinned c) is = absurd cc
+bad-pins (pin.NotDagPb c why) is = absurd cc
+bad-pins pin.TooMany is = absurd cc
+bad-pins (pin.Store f) is = absurd (store-unready f is)
+
 module _ (X : List ℕ → List ℕ) (N : List ℕ → ℕ) (ask : PinAsk) (a b : Seen) (l : streams.Told) (i : ℕ) (h : streams.Told) (w t0 t1 : ℕ) (side : HostSide) (er er2 : SinkSide) where
   -- what every fault of a call on pins has
   record IsFault (f : PinFault) : Type 0 where
@@ -448,8 +459,8 @@ module _ (X : List ℕ → List ℕ) (N : List ℕ → ℕ) (ask : PinAsk) (a b 
 
   -- it is refused, and nothing is printed
   pub pin-refused : (A : Type 0) (f : PinFault) → IsOfAsk ask f → SaysOf ask (Err (pin_refusal f)) a.told → Shown X NoneIsBad (pin_fault {A = A} (Err f)) a b → WritesAs X (pin_writes ask) false a.told b.told → UnreadBy (Err (pin_refusal f)) a.told
-      → Touches X N ask t0 t1 → Does X N (Pin ask) (Err (pin_refusal f)) (around a l i h w t0 side er) (around b l i h w t1 side er2)
-  pin-refused A f may says cause writes unread touch =
+      → (f ≡ pin.BadPins → b.told ≡ a.told) → Touches X N ask t0 t1 → Does X N (Pin ask) (Err (pin_refusal f)) (around a l i h w t0 side er) (around b l i h w t1 side er2)
+  pin-refused A f may says cause writes unread alone touch =
       let is = fault-of A f (ask-kinds X A ask f a b may cause) cause in
       let quiet = quiet-of (IsTextOf X N a.told b.told side.told (Pin ask) l) false (pin_refusal f) is.other in
       record {
@@ -472,7 +483,7 @@ module _ (X : List ℕ → List ℕ) (N : List ℕ → ℕ) (ask : PinAsk) (a b 
         whole = λ s needs stands calm. absurd cc;
         touches = λ p es bytes rows named input heights calm. touch p es bytes rows;
         touched = λ blames. absurd (is.blameless blames);
-        unready = λ or_none e is. absurd cc;
+        unready = λ e given. record { told = alone (bad-pins f given); left = refl; reads = refl };
         unplaced = λ p es names stood none. absurd none;
         leaves = record { good = good; head = head; writes = subst (λ d. WritesAs X (pin_writes ask) d a.told b.told) (sym quiet.undone) writes; idle = λ p es bytes stands calm is. absurd cc };
       }
@@ -533,7 +544,7 @@ module _ (X : List ℕ → List ℕ) (N : List ℕ → ℕ) (ask : PinAsk) (a b 
     whole = λ s needs stands quiet. absurd cc;
     touches = λ p es bytes rows named input heights quiet. touch p es bytes rows;
     touched = λ blames. absurd blames;
-    unready = λ or_none e is. absurd cc;
+    unready = λ e is. absurd cc;
     unplaced = λ p es names stood none. absurd none;
     leaves = record { good = good; head = tt; writes = writes; idle = λ p es bytes stands quiet is. absurd cc };
   }
@@ -557,14 +568,14 @@ after-none : (held : streams.Told) → held ≡ after held []
 after-none held = after-nothing held
 
 module _ (X : List ℕ → List ℕ) (N : List ℕ → ℕ) (a b : Seen) (l : streams.Told) (i : ℕ) (h : streams.Told) (w t0 t1 : ℕ) (side : HostSide) (er er2 : SinkSide) where
-  pub adds : (cid : Cid) (r : Result (Unit {0}) PinFault) → ((t : Contents) → a.told ≡ Some t → AddsPin t most_blocks cid r b.told) → WritesMore r a.told b.told → Shown X NoneIsBad (pin_fault r) a b
+  pub adds : (cid : Cid) (r : Result (Unit {0}) PinFault) → ((t : Contents) → a.told ≡ Some t → AddsPin t most_blocks cid r b.told) → WritesMore r a.told b.told → (r ≡ Err pin.BadPins → b.told ≡ a.told) → Shown X NoneIsBad (pin_fault r) a b
       → Does X N (Pin (pins.Add cid)) (refused-as r) (around a l i h w t0 side er) (around b l i h w t1 side er2)
-  adds cid (Ok done) added writes cause =
+  adds cid (Ok done) added writes unread cause =
       pin-done X N (pins.Add cid) a b l i h w t0 t1 side er er2 [] h w (λ t is listed read. added-said t listed read cid b.told (added t is)) cause writes (told-each (λ t. PinsBelow t most_blocks cid b.told) a.told added) refl (after-none h)
       (counts-still w) (λ p es bytes rows. tt)
-  adds cid (Err f) added writes cause =
+  adds cid (Err f) added writes unread cause =
       pin-refused X N (pins.Add cid) a b l i h w t0 t1 side er er2 (Unit {0}) f tt (λ t is listed read. added-unsaid t listed read cid b.told f (added t is)) cause writes
-      (unread-by f a.told (λ t is bad. (subst (λ g. AddsPin t most_blocks cid (Err g) b.told) bad (added t is)).0)) (λ p es bytes rows. tt)
+      (unread-by f a.told (λ t is bad. (subst (λ g. AddsPin t most_blocks cid (Err g) b.told) bad (added t is)).0)) (λ bad. unread (ap (λ (g : PinFault). Err g) bad)) (λ p es bytes rows. tt)
 
 module _ (X : List ℕ → List ℕ) (N : List ℕ → ℕ) (a b : Seen) (l : streams.Told) (i : ℕ) (h : streams.Told) (w t0 : ℕ) (side : HostSide) (er er2 : SinkSide) where
   pub removes : (cid : Cid) (r : Result (Unit {0}) PinFault) → IfErr r IsOfRemoval → ((t : Contents) → a.told ≡ Some t → RemovesPin t cid r b.told) → WritesLess r a.told b.told → Shown X NoneIsBad (pin_fault r) a b
@@ -574,19 +585,19 @@ module _ (X : List ℕ → List ℕ) (N : List ℕ → ℕ) (a b : Seen) (l : st
       (counts-still w) (λ p es bytes rows. omega arith)
   removes cid (Err f) may removed writes cause =
       pin-refused X N (pins.Remove cid) a b l i h w t0 t0 side er er2 (Unit {0}) f may (λ t is listed read. removed-unsaid t listed read cid b.told f (removed t is)) cause writes
-      (unread-by f a.told (λ t is bad. (subst (λ g. RemovesPin t cid (Err g) b.told) bad (removed t is)).0)) (λ p es bytes rows. omega arith)
+      (unread-by f a.told (λ t is bad. (subst (λ g. RemovesPin t cid (Err g) b.told) bad (removed t is)).0)) (λ bad. writes) (λ p es bytes rows. omega arith)
 
   -- the list isn't read, or there was no memory for its text
   pub unlisted : (f : PinFault) → IsOfNote f → ((t : Contents) → a.told ≡ Some t → ListsPins t.notes.pins (Err f)) → Shown X NoneIsBad (pin_fault {A = List Cid} (Err f)) a b → b.told ≡ a.told
       → Does X N (Pin pins.List) (Err (pin_refusal f)) (around a l i h w t0 side er) (around b l i h w t0 side er2)
   unlisted f may listed cause same =
       pin-refused X N pins.List a b l i h w t0 t0 side er er2 (List Cid) f may (λ t is listed' read. list-unsaid t listed' read f (listed t is)) cause same
-      (unread-by f a.told (λ t is bad. subst (λ g. ListsPins t.notes.pins (Err g)) bad (listed t is))) (λ p es bytes rows. omega arith)
+      (unread-by f a.told (λ t is bad. subst (λ g. ListsPins t.notes.pins (Err g)) bad (listed t is))) (λ bad. same) (λ p es bytes rows. omega arith)
 
   module _ (x : List Cid) (lists : (t : Contents) → a.told ≡ Some t → ListsPins t.notes.pins (Ok x)) (calm : StaysCalm a b) (same : b.told ≡ a.told) where
     pub no-text : Does X N (Pin pins.List) (Err no_memory) (around a l i h w t0 side er) (around b l i h w t0 side er2)
     no-text =
-        pin-refused X N pins.List a b l i h w t0 t0 side er er2 (List Cid) (pin.Store fault.Memory) tt (λ t is listed read. inl tt) (calm-memory a b calm) same tt (λ p es bytes rows. omega arith)
+        pin-refused X N pins.List a b l i h w t0 t0 side er er2 (List Cid) (pin.Store fault.Memory) tt (λ t is listed read. inl tt) (calm-memory a b calm) same tt (λ bad. same) (λ p es bytes rows. omega arith)
 
     abbrev text : List ℕ
     text = flat_map cid_line x
@@ -619,7 +630,7 @@ module _ (X : List ℕ → List ℕ) (N : List ℕ → ℕ) (a b : Seen) (l : st
         whole = λ s needs stands quiet. absurd cc;
         touches = λ p es bytes rows named input heights quiet. omega arith;
         touched = λ blames. absurd blames;
-        unready = λ or_none e is. absurd cc;
+        unready = λ e is. absurd cc;
         unplaced = λ p es names stood none. absurd none;
         leaves = record { good = KeepsGood-same X a.told b.told same; head = ap head_in same; writes = same; idle = λ p es bytes stands quiet is. absurd cc };
       }

@@ -1,7 +1,6 @@
 -- How what is added is put into the tree that the Head names, from its opening to its commit.
-use Rattle.std.proofs.Common.{◌≡◌, ◌≢◌, ◌⊎◌, ℕ, ◌≤◌, ◌<◌, List, [], ◌∷◌, ◌++◌, length, arith, Bool, true, false, refl, sym, ap, subst, ◌∙◌, inl, inr, Option, Some, None, Result, Ok, Err}
+use Rattle.std.proofs.Common.{◌≡◌, ◌≢◌, ◌⊎◌, ℕ, ◌+◌, ◌*◌, ◌≤◌, ◌<◌, List, [], ◌∷◌, ◌++◌, length, arith, Bool, true, false, refl, sym, ap, subst, ◌∙◌, inl, inr, Option, Some, None, Result, Ok, Err}
 use Rattle.std.specs.Prelude.{IfErr, IfOk, IfSome, IsErr, OnErr, if◌then◌else◌, nat_le, ⊤}
-use Rattle.std.specs.List.{AllByRecursion}
 use Rattle.uf_cid.specs.Blocks.{Held}
 use Rattle.uf_edge.specs.Counts.{Counts, Stood}
 use Rattle.uf_edge.specs.Host.{HostTold, HostTree}
@@ -14,11 +13,14 @@ use Rattle.uf_mfs.specs.Bad.{IsBadInHead, IsBadInTree}
 use Rattle.uf_mfs.specs.Standing.{NamesOver, ReadsHead, Same, TellsAs, TellsHeld, head_in}
 use Rattle.uf_mfs.specs.Touches.{IsBlaming}
 use Rattle.uf_mfs.specs.declared.mfs.Mfs.{Mfs}
-use Rattle.uf_mfs.proofs.Holding.{loss-back, loss-fault, tells-among}
-use Rattle.uf_mfs.proofs.Needed.{root-of-among}
+use Rattle.uf_mfs.specs.Missing.{put_names, put_needs}
+use Rattle.uf_mfs.specs.Moving.{put_crossings}
+use Rattle.uf_mfs.proofs.Alike.{put-alike}
+use Rattle.uf_mfs.proofs.Holding.{loss-fault, tells-among}
+use Rattle.uf_mfs.proofs.Missing.{put-names-few, put-needs-among}
 use Rattle.uf_mfs.proofs.Starting.{saves-head}
 use Rattle.uf_path.specs.declared.path.Path.{Path}
-use Rattle.uf_plain.specs.Moves.{allowed_move, placed_at, spotted}
+use Rattle.uf_plain.specs.Moves.{allowed_move, placed_at, spot_names, spotted}
 use Rattle.uf_plain.specs.Needs.{root_of}
 use Rattle.uf_plain.specs.declared.ready.Ready.{Ready}
 use Rattle.uf_plain.specs.declared.ready.Ready.TheVariants as ready
@@ -65,26 +67,25 @@ use Rattle.uf_top.specs.Endings.{FindsAll}
 use Rattle.uf_top.specs.Grafts.{FollowsOr, IsLostBy}
 use Rattle.uf_top.specs.HostTexts.{host_text}
 use Rattle.uf_top.specs.Hosted.{AreHostRows}
-use Rattle.uf_top.specs.Losing.{AnswersOver}
+use Rattle.uf_top.specs.Bounds.{placing_touches}
+use Rattle.uf_top.specs.Losing.{AnswersOver, placing_needs, row_name}
 use Rattle.uf_top.specs.Naming.{NamesAfter, StandsNamed, StaysNamed}
 use Rattle.uf_top.specs.Placing.{FindsSpot, IsFoundAt, IsGiven, IsReadyIn, IsUngiven, IsUnready, OpensFound, PutsGiven, SaysHost, SaysInput, kinds_placing}
 use Rattle.uf_top.specs.Reply.{added_spot, by_rule, file_cid, good_name, host_tree, in_tree, input_row, input_tree, not_ready, placed, settled}
-use Rattle.uf_top.specs.Shapes.{WritesAs, is_ok}
+use Rattle.uf_top.specs.Saving.{KeepsHosted, KeepsPut}
+use Rattle.uf_top.specs.Shapes.{WritesAs, WritesInTree, is_ok}
 use Rattle.uf_top.specs.Working.{Makes}
 use Rattle.uf_top.specs.declared.given.OpenSpot.{OpenSpot}
 use Rattle.uf_top.specs.declared.given.Given.{Given}
-use Rattle.uf_top.proofs.Adopted.{named-stands, stands-blocks}
+use Rattle.uf_top.proofs.Adopted.{named-stands, placing-held, stands-blocks}
 use Rattle.uf_top.proofs.Losing.{named-of, names-kept, names-of, names-same}
-use Rattle.uf_top.proofs.Putting.{ok-value}
+use Rattle.uf_top.proofs.Putting.{added-spot-names, lost-behind, needs_at_spot, ok-value}
+use Rattle.uf_top.proofs.Shaped.{profile-said}
 use Rattle.uf_top.proofs.Shows.{bad-of-head, bad-of-none, counts-still, not-rose, saving-wants}
 use Rattle.uf_top.proofs.Standings.{stands-kept, tells-none, tree-good}
 use Rattle.uf_top.proofs.Unready.{not-unready, ungiven-unready}
 
 -- ---- refusals by their kinds
-
-both-held : (P : Held → Type 0) (k l : List Held) → AllByRecursion P k → AllByRecursion P l → AllByRecursion P (k ++ l)
-both-held P [] l h g = g
-both-held P (b ∷ k) l h g = (h.0, both-held P k l h.1 g)
 
 memory-finds : FindsAll status.Memory
 memory-finds = (λ e. cc, λ e. cc)
@@ -258,23 +259,6 @@ says-profile (Some t) tree h = by t.notes.head h.1
     by None e = absurd cc
     by (Some text) e = (tree.root.cid, (let same : text ≡ h.0 = cc in ap head_reads same ∙ h.2))
 
--- of more blocks
-pub lost-behind : (told : Told) (k l : List Held) (why : Refusal) → IsLostBy told l why → IsLostBy told (k ++ l) why
-lost-behind told k l (refusal.Rule r) lost = absurd lost
-lost-behind told k l (refusal.Dag r) lost = absurd lost
-lost-behind told k l (refusal.BadPath r) lost = absurd lost
-lost-behind told k l (refusal.Host r) lost = absurd lost
-lost-behind told k l (refusal.Car number place) lost = absurd lost
-lost-behind told k l (refusal.CarLacks cid) lost = absurd lost
-lost-behind told k l (refusal.OwnClash cid first second) lost = absurd lost
-lost-behind told k l refusal.InputTooLong lost = absurd lost
-lost-behind told k l refusal.Usage lost = absurd lost
-lost-behind told k l refusal.BadPins lost = absurd lost
-lost-behind told k l (refusal.Ready r) lost = absurd lost
-lost-behind told k l refusal.Read lost = absurd lost
-lost-behind told k l refusal.Write lost = absurd lost
-lost-behind told k l (refusal.Store f) lost = loss-back told k l f lost
-
 -- ---- what the Head or the destination refuses
 
 module _ (X : List ℕ → List ℕ) (N : List ℕ → ℕ) (dest : Path) (path : Option (List ℕ)) (done : Result (List ℕ) Refusal) (a d : Seen) where
@@ -298,7 +282,7 @@ module _ (X : List ℕ → List ℕ) (N : List ℕ → ℕ) (dest : Path) (path 
   pub record EndsFor (a d : Seen) (done : Result (List ℕ) Refusal) (p : Profile) (es : Entries) : Type 0 where
     pub given : Result Tree Refusal
     pub said : Says p given
-    pub ends : AnswersOver X N a.told d.told p es (root_of X N p (Dir es) ++ blocks X N p (Dir es)) (settled X N (say p) p es (placed X N (added_spot dest path es) given p es)) done
+    pub ends : AnswersOver X N a.told d.told p es (placing_needs X N dest (row_name path) p es) (settled X N (say p) p es (placed X N (added_spot dest path es) given p es)) done
 
   -- the rows are those of a tree that is there
   pub record PrintsFor (told now : Told) (text : List ℕ) : Type 0 where
@@ -318,9 +302,26 @@ module _ (X : List ℕ → List ℕ) (N : List ℕ → ℕ) (dest : Path) (path 
     pub rows : IfOk done (PrintsFor a.told d.told)
     pub cause : Shown X (IsBadIn X N a.told d.told) (refusal_fault done) a d
     pub good : KeepsGood X a.told d.told
+    pub touches : (p : Profile) (es : Entries) → StaysNamed X N a.told d.told p es → Calm a d → t2 ≤ t0 + (1 + placing_touches X N dest path p es)
     pub touched : IsBlaming (refusal_fault done) → t0 < t2
     pub head : IfErr done (λ why. head_in d.told ≡ head_in a.told)
     pub writes : WritesAs X MovesHead (is_ok done) a.told d.told
+
+  -- so many touches, where nothing is put
+  few-touches : (p : Profile) (es : Entries) (t0 t1 : ℕ) → t1 ≤ t0 + (11 * length dest.names + 12) → t1 ≤ t0 + (1 + placing_touches X N dest path p es)
+  few-touches p es t0 t1 few = by (elim (added_spot dest path es) as (λ w. ℕ) [ Ok spot ↦ put_crossings X N p spot (File none []) es | Err why ↦ 0 ])
+    where
+      by : (more : ℕ) → t1 ≤ t0 + (1 + (64 * (length dest.names + 3) + more))
+      by more = omega (arith, few)
+
+  -- and where it is put
+  put-touches : (p : Profile) (es : Entries) (spot : Spot) (t : Tree) (t0 t1 t2 : ℕ) → added_spot dest path es ≡ Ok spot → t1 ≤ t0 + (11 * length dest.names + 12) → t2 ≤ t1 + (40 * length (spot_names spot) + put_crossings X N p spot t es)
+      → t2 ≤ t0 + (1 + placing_touches X N dest path p es)
+  put-touches p es spot t t0 t1 t2 is few more =
+      let names : length (spot_names spot) ≤ length dest.names + 1 = subst (λ ns. length ns ≤ length dest.names + 1) (sym (added-spot-names dest path es spot is)) (put-names-few dest (row_name path)) in
+      let same = put-alike X N p spot t (File none []) es in
+      subst (λ (w : Result Spot Refusal). t2 ≤ t0 + (1 + (64 * (length dest.names + 3) + elim w as (λ w. ℕ) [ Ok spot ↦ put_crossings X N p spot (File none []) es | Err why ↦ 0 ]))) (sym is)
+      (omega (arith, few, more, names, same))
 
   -- a refusal over blocks that may be lost
   stopped : (a d : Told) (p : Profile) (es : Entries) (needs : List Held) (w : Result (Tree × Entries) Refusal) (why : Refusal) → IsLostBy a needs why ⊎ (w ≡ Err why)
@@ -341,11 +342,6 @@ module _ (X : List ℕ → List ℕ) (N : List ℕ → ℕ) (dest : Path) (path 
   stopped a d p es needs w (refusal.Ready r) (inl lost) stands = absurd lost
   stopped a d p es needs w refusal.Read (inl lost) stands = absurd lost
   stopped a d p es needs w refusal.Write (inl lost) stands = absurd lost
-
-  -- all that it needs is held where the store stands
-  needs-held : (told : Told) (p : Profile) (es : Entries) → TellsAs X N told (Stands p es) → TellsHeld told (root_of X N p (Dir es) ++ blocks X N p (Dir es))
-  needs-held told p es stands =
-      tells-among told (blocks X N p (Dir es)) (root_of X N p (Dir es) ++ blocks X N p (Dir es)) (λ P h. both-held P (root_of X N p (Dir es)) (blocks X N p (Dir es)) (root-of-among X N p (Dir es) P h) h) (stands-blocks X N told p es stands)
 
   -- the spot isn't found
   placed-stop : (p : Profile) (es : Entries) (spot : Result Spot Refusal) (given : Result Tree Refusal) (why : Refusal) → spot ≡ Err why → placed X N spot given p es ≡ Err why
@@ -371,7 +367,7 @@ module _ (X : List ℕ → List ℕ) (N : List ℕ → ℕ) (dest : Path) (path 
       over = λ p es named calm read. record {
         given = (some p).0;
         said = (some p).1;
-        ends = stopped a.told m.told p es (root_of X N p (Dir es) ++ blocks X N p (Dir es)) (placed X N (added_spot dest path es) (some p).0 p es) why
+        ends = stopped a.told m.told p es (placing_needs X N dest (row_name path) p es) (placed X N (added_spot dest path es) (some p).0 p es) why
             (follow p es (f.lost p es named.names calm.faults)) (names-same X N a.told m.told p es f.reads.told named);
       };
       unready = λ s stands calm. opens s (f.opens s stands calm.faults);
@@ -382,6 +378,7 @@ module _ (X : List ℕ → List ℕ) (N : List ℕ → ℕ) (dest : Path) (path 
       rows = tt;
       cause = shown-by X (IsBadInHead X N a.told) (IsBadIn X N a.told m.told) (fault_behind why) a m (bad-of-none X N a.told m.told) f.reads.cause;
       good = KeepsGood-same X a.told m.told f.reads.told;
+      touches = λ p es named calm. few-touches p es t0 t1 f.touches;
       touched = f.touched.risen;
       head = ap head_in f.reads.told;
       writes = record { between = a.told; saves = SavesOnly-refl X a.told; last = Same f.reads.told };
@@ -392,13 +389,13 @@ module _ (X : List ℕ → List ℕ) (N : List ℕ → ℕ) (dest : Path) (path 
         opens BadHead h = h
         opens (Stands p es) h = tt
 
-        follow : (p : Profile) (es : Entries) → IsLostBy a.told (root_of X N p (Dir es) ++ blocks X N p (Dir es)) why ⊎ (added_spot dest path es ≡ Err why)
-            → IsLostBy a.told (root_of X N p (Dir es) ++ blocks X N p (Dir es)) why ⊎ (placed X N (added_spot dest path es) (some p).0 p es ≡ Err why)
+        follow : (p : Profile) (es : Entries) → IsLostBy a.told (placing_needs X N dest (row_name path) p es) why ⊎ (added_spot dest path es ≡ Err why)
+            → IsLostBy a.told (placing_needs X N dest (row_name path) p es) why ⊎ (placed X N (added_spot dest path es) (some p).0 p es ≡ Err why)
         follow p es (inl lost) = inl lost
         follow p es (inr is) = inr (placed-stop p es (added_spot dest path es) (some p).0 why is)
 
-        finds : (p : Profile) (es : Entries) → TellsAs X N a.told (Stands p es) → IsLostBy a.told (root_of X N p (Dir es) ++ blocks X N p (Dir es)) why ⊎ (added_spot dest path es ≡ Err why) → FindsAll (status_of why)
-        finds p es stands (inl lost) = lost-finds a.told (root_of X N p (Dir es) ++ blocks X N p (Dir es)) why (needs-held a.told p es stands) lost
+        finds : (p : Profile) (es : Entries) → TellsAs X N a.told (Stands p es) → IsLostBy a.told (placing_needs X N dest (row_name path) p es) why ⊎ (added_spot dest path es ≡ Err why) → FindsAll (status_of why)
+        finds p es stands (inl lost) = lost-finds a.told (placing_needs X N dest (row_name path) p es) why (placing-held X N a.told p es dest (row_name path) stands) lost
         finds p es stands (inr is) = spot-finds dest path es why is
 
     module _ (a m : Seen) (t0 t1 : ℕ) (found : OpenSpot) (f : FindsSpot X N dest path (Ok found) a m t0 t1) where
@@ -423,8 +420,8 @@ module _ (X : List ℕ → List ℕ) (N : List ℕ → ℕ) (dest : Path) (path 
 
       -- ---- there is nothing to put
 
-      pub not-given : (b : Seen) (t2 : ℕ) (why : Refusal) → IsUngiven (Says q) why → OnlySaves X NoneIsBad (fault_behind why) m b → IsOf {A = List ℕ} (may_meet (kinds_placing path)) (Err why) → (IsBlaming (fault_behind why) → ⊥) → Ended (Err why) a b t0 t2
-      not-given b t2 why ungiven saves kind blameless = record {
+      pub not-given : (b : Seen) (why : Refusal) → IsUngiven (Says q) why → OnlySaves X NoneIsBad (fault_behind why) m b → IsOf {A = List ℕ} (may_meet (kinds_placing path)) (Err why) → (IsBlaming (fault_behind why) → ⊥) → Ended (Err why) a b t0 t1
+      not-given b why ungiven saves kind blameless = record {
         over = λ p es named calm read. over p es named calm read (at-spot p es named.names (front calm)) (ungiven-end (Says q) why ungiven);
         unready = λ s stands calm. opened-stands b (Err why) s stands (front calm);
         whole = λ s stands calm. ungiven-finds (Says q) why (ungiven-end (Says q) why ungiven);
@@ -433,6 +430,7 @@ module _ (X : List ℕ → List ℕ) (N : List ℕ → ℕ) (dest : Path) (path 
         rows = tt;
         cause = shown-by X NoneIsBad (IsBadIn X N a.told b.told) (fault_behind why) a b (λ role bytes bad. absurd bad) both.cause;
         good = both.good;
+        touches = λ p es named calm. few-touches p es t0 t1 f.touches;
         touched = λ blames. absurd (blameless blames);
         head = saves-head X a.told b.told both.saves;
         writes = record { between = b.told; saves = both.saves; last = Same refl };
@@ -453,13 +451,13 @@ module _ (X : List ℕ → List ℕ) (N : List ℕ → ℕ) (dest : Path) (path 
               record {
                 given = (some p).0;
                 said = (some p).1;
-                ends = stopped a.told b.told p es (root_of X N p (Dir es) ++ blocks X N p (Dir es)) (placed X N (added_spot dest path es) (some p).0 p es) why
-                    (inl (subst (IsLostBy a.told (root_of X N p (Dir es) ++ blocks X N p (Dir es))) (sym (e ∙ ap refusal.Store wants)) tt)) (names-kept X N a.told b.told p es both.good (saves-head X a.told b.told both.saves) named);
+                ends = stopped a.told b.told p es (placing_needs X N dest (row_name path) p es) (placed X N (added_spot dest path es) (some p).0 p es) why
+                    (inl (subst (IsLostBy a.told (placing_needs X N dest (row_name path) p es)) (sym (e ∙ ap refusal.Store wants)) tt)) (names-kept X N a.told b.told p es both.good (saves-head X a.told b.told both.saves) named);
               }
           over p es named calm read at (BySaid said is other) = record {
             given = Err why;
             said = subst (λ p. Says p (Err why)) at.2.stands.profile_is said;
-            ends = stopped a.told b.told p es (root_of X N p (Dir es) ++ blocks X N p (Dir es)) (placed X N (added_spot dest path es) (Err why) p es) why
+            ends = stopped a.told b.told p es (placing_needs X N dest (row_name path) p es) (placed X N (added_spot dest path es) (Err why) p es) why
                 (inr (placed-at p es (added_spot dest path es) at.0 (Err why) at.1)) (names-kept X N a.told b.told p es both.good (saves-head X a.told b.told both.saves) named);
           }
 
@@ -495,7 +493,7 @@ module _ (X : List ℕ → List ℕ) (N : List ℕ → ℕ) (dest : Path) (path 
         given-by p same = subst (λ p. IsGiven X N p b.told (Says p) (say p) given) same gives
 
         follows : (p : Profile) (es : Entries) (same : q ≡ p) (spot : Spot) → IsFoundAt X N a.told p es spot found → StaysNamed X N a.told d.told p es → Calm a d
-            → FollowsOr (IsLostBy a.told (blocks X N p (Dir es))) (λ next text. NamesAfter X N a.told d.told (blocks X N p (Dir es)) p next)
+            → FollowsOr (IsLostBy a.told (needs_at_spot X N found.spot p es)) (λ next text. NamesAfter X N a.told d.told (blocks X N p (Dir es)) p next)
             (by_rule (allowed_move X N p (placed_at found.spot (given-by p same).tree es))) done
         follows p es same spot at named calm =
             put.puts a (given-by p same).tree p es start same (given-by p same).plan (given-by p same).entry_is
@@ -505,8 +503,8 @@ module _ (X : List ℕ → List ℕ) (N : List ℕ → ℕ) (dest : Path) (path 
         all_good = KeepsGood-trans X a.told b.told d.told start.good put.good
 
         ends-put : (p : Profile) (es : Entries) (t : Tree) (spot : Spot) (r : Result (List ℕ) Refusal) → added_spot dest path es ≡ Ok spot → IfOk r (λ text. text ≡ say p t) → IfErr r (λ why. NamesAfter X N a.told d.told (blocks X N p (Dir es)) p es)
-            → FollowsOr (IsLostBy a.told (blocks X N p (Dir es))) (λ next text. NamesAfter X N a.told d.told (blocks X N p (Dir es)) p next) (by_rule (allowed_move X N p (placed_at spot t es))) r
-            → AnswersOver X N a.told d.told p es (root_of X N p (Dir es) ++ blocks X N p (Dir es)) (settled X N (say p) p es (placed X N (added_spot dest path es) (Ok t) p es)) r
+            → FollowsOr (IsLostBy a.told (needs_at_spot X N spot p es)) (λ next text. NamesAfter X N a.told d.told (blocks X N p (Dir es)) p next) (by_rule (allowed_move X N p (placed_at spot t es))) r
+            → AnswersOver X N a.told d.told p es (placing_needs X N dest (row_name path) p es) (settled X N (say p) p es (placed X N (added_spot dest path es) (Ok t) p es)) r
         ends-put p es t spot (Ok text) is text_is stands h =
             let v = ok-value (λ next. NamesAfter X N a.told d.told (blocks X N p (Dir es)) p next) (by_rule (allowed_move X N p (placed_at spot t es))) h in
             let w : placed X N (added_spot dest path es) (Ok t) p es ≡ Ok (t, v.0) = placed-at p es (added_spot dest path es) spot (Ok t) is ∙ ap (λ (n : Result Entries Refusal). n >>= λ next. Ok (t, next)) v.1 in
@@ -515,10 +513,11 @@ module _ (X : List ℕ → List ℕ) (N : List ℕ → ℕ) (dest : Path) (path 
               stands = subst (λ w. StandsNamed X N a.told d.told (blocks X N p (Dir es)) (settled X N (say p) p es w).next) (sym w) v.2;
             })
         ends-put p es t spot (Err why) is text_is stands (inl lost) =
-            stopped a.told d.told p es (root_of X N p (Dir es) ++ blocks X N p (Dir es)) (placed X N (added_spot dest path es) (Ok t) p es) why (inl (lost-behind a.told (root_of X N p (Dir es)) (blocks X N p (Dir es)) why lost)) stands
+            stopped a.told d.told p es (placing_needs X N dest (row_name path) p es) (placed X N (added_spot dest path es) (Ok t) p es) why (inl (lost-behind a.told (root_of X N p (Dir es)) (put_needs X N p (put_names dest (row_name path)) (Dir es)) why
+            (subst (λ ns. IsLostBy a.told (put_needs X N p ns (Dir es)) why) (added-spot-names dest path es spot is) lost))) stands
         ends-put p es t spot (Err why) is text_is stands (inr refused) =
             let w : placed X N (added_spot dest path es) (Ok t) p es ≡ Err why = placed-at p es (added_spot dest path es) spot (Ok t) is ∙ ap (λ (n : Result Entries Refusal). n >>= λ next. Ok (t, next)) refused in
-            stopped a.told d.told p es (root_of X N p (Dir es) ++ blocks X N p (Dir es)) (placed X N (added_spot dest path es) (Ok t) p es) why (inr w) stands
+            stopped a.told d.told p es (placing_needs X N dest (row_name path) p es) (placed X N (added_spot dest path es) (Ok t) p es) why (inr w) stands
 
         text-by : (p : Profile) (same : q ≡ p) (r : Result (List ℕ) Refusal) → IfOk r (λ text. text ≡ given.text) → IfOk r (λ text. text ≡ say p (given-by p same).tree)
         text-by p same (Ok text) is = is ∙ (given-by p same).text_is
@@ -533,9 +532,11 @@ module _ (X : List ℕ → List ℕ) (N : List ℕ → ℕ) (dest : Path) (path 
         stands-on p es (Err why) named h = names-kept X N a.told d.told p es all_good h named
 
         put-finds : (p : Profile) (es : Entries) (t : Tree) (r : Result (List ℕ) Refusal) → TellsAs X N a.told (Stands p es)
-            → FollowsOr (IsLostBy a.told (blocks X N p (Dir es))) (λ next text. NamesAfter X N a.told d.told (blocks X N p (Dir es)) p next) (by_rule (allowed_move X N p (placed_at found.spot t es))) r → FindsAll (ended r)
+            → FollowsOr (IsLostBy a.told (needs_at_spot X N found.spot p es)) (λ next text. NamesAfter X N a.told d.told (blocks X N p (Dir es)) p next) (by_rule (allowed_move X N p (placed_at found.spot t es))) r → FindsAll (ended r)
         put-finds p es t (Ok text) stands h = (λ e. cc, λ e. cc)
-        put-finds p es t (Err why) stands (inl lost) = lost-finds a.told (blocks X N p (Dir es)) why (stands-blocks X N a.told p es stands) lost
+        put-finds p es t (Err why) stands (inl lost) =
+            lost-finds a.told (needs_at_spot X N found.spot p es) why
+            (tells-among a.told (blocks X N p (Dir es)) (needs_at_spot X N found.spot p es) (λ P h. put-needs-among X N p (spot_names found.spot) (Dir es) P h) (stands-blocks X N a.told p es stands)) lost
         put-finds p es t (Err why) stands (inr is) = by-rule-finds (allowed_move X N p (placed_at found.spot t es)) why is
 
         put-ready : (r : Result (List ℕ) Refusal) → IsOf opened_kinds r → IfErr r (λ why. IsReadyIn a.told why)
@@ -554,8 +555,8 @@ module _ (X : List ℕ → List ℕ) (N : List ℕ → ℕ) (dest : Path) (path 
         put-rows (Ok text) is = record { profile = q; adds_by = says-profile a.told found.tree f.head; tree = gives.tree; plan = still-planned gives.plan; said = gives.said; is = is ∙ gives.text_is }
         put-rows (Err why) is = tt
 
-        put-writes : (r : Result (List ℕ) Refusal) → WritesAs X MovesHead (is_ok r) b.told d.told → WritesAs X MovesHead (is_ok r) a.told d.told
-        put-writes (Ok text) w = (w.0, w.1, record { between = w.2.between; saves = SavesOnly-trans X a.told b.told w.2.between start.saves w.2.saves; last = w.2.last })
+        put-writes : (r : Result (List ℕ) Refusal) → WritesInTree X q MovesHead (is_ok r) b.told d.told → WritesAs X MovesHead (is_ok r) a.told d.told
+        put-writes (Ok text) w = (q, profile-said a.told found.tree f.head, (w.0, record { between = w.1.between; saves = SavesOnly-trans X a.told b.told w.1.between start.saves w.1.saves; last = w.1.last }))
         put-writes (Err why) w = record { between = w.between; saves = SavesOnly-trans X a.told b.told w.between start.saves w.saves; last = w.last }
 
         pub is-put-there : Ended done a d t0 t2
@@ -581,6 +582,12 @@ module _ (X : List ℕ → List ℕ) (N : List ℕ → ℕ) (dest : Path) (path 
           cause = shown-after X (IsBadIn X N a.told d.told) (refusal_fault done) a b d start.cause
               (shown-by X (IsBadInTree X N (Some q) found.tree.root.cid) (IsBadIn X N a.told d.told) (refusal_fault done) b d (λ role bytes bad. bad-of-head X N a.told d.told found.tree f.head role bytes (inl (inl bad))) put.cause);
           good = all_good;
+          touches = λ p es named calm.
+              let at = at-spot p es named.names (front-m calm) in
+              let same = at.2.stands.profile_is in
+              put-touches p es found.spot (given-by p same).tree t0 t1 t2 (at.1 ∙ ap (λ (s : Spot). Ok s) (sym at.2.spot_is)) f.touches
+              (put.touches a (given-by p same).tree p es start same (given-by p same).plan (given-by p same).entry_is
+              (record { plan = at.2.stands.root.plan; stays = record { first = at.2.stands.root.agrees; last = named.last }; calm = calm }));
           touched = λ blames. let more = put.touched blames in omega (arith, low, more);
           head = kept done put.head;
           writes = put-writes done put.writes;
@@ -600,17 +607,17 @@ module _ (X : List ℕ → List ℕ) (N : List ℕ → ℕ) (dest : Path) (path 
   answers-of done a d t0 t2 given e calm read same (Stands p es) stands =
       let o = e.over p es (named-of X N a.told d.told p es stands e.good) calm read in
       over-answers p es (placed X N (added_spot dest path es) (given p) p es) done stands
-      (subst (λ g. AnswersOver X N a.told d.told p es (root_of X N p (Dir es) ++ blocks X N p (Dir es)) (settled X N (say p) p es (placed X N (added_spot dest path es) g p es)) done) (same p o.given o.said) o.ends)
+      (subst (λ g. AnswersOver X N a.told d.told p es (placing_needs X N dest (row_name path) p es) (settled X N (say p) p es (placed X N (added_spot dest path es) g p es)) done) (same p o.given o.said) o.ends)
     where
       settled-stands : (p : Profile) (es : Entries) (w : Result (Tree × Entries) Refusal) → TellsHeld a.told (blocks X N p (Dir es)) → StandsNamed X N a.told d.told (blocks X N p (Dir es)) (settled X N (say p) p es w).next
           → TellsAs X N d.told (settled X N (say p) p es w).next × TellsHeld d.told (settled X N (say p) p es w).held
       settled-stands p es (Ok put) held named = (let s = named-stands X N a.told d.told p es put.1 held named in (s, stands-blocks X N d.told p put.1 s))
       settled-stands p es (Err why) held named = (let s = named-stands X N a.told d.told p es es held named in (s, tells-none X N d.told (Stands p es) s))
 
-      over-answers : (p : Profile) (es : Entries) (w : Result (Tree × Entries) Refusal) (r : Result (List ℕ) Refusal) → TellsAs X N a.told (Stands p es) → AnswersOver X N a.told d.told p es (root_of X N p (Dir es) ++ blocks X N p (Dir es)) (settled X N (say p) p es w) r
+      over-answers : (p : Profile) (es : Entries) (w : Result (Tree × Entries) Refusal) (r : Result (List ℕ) Refusal) → TellsAs X N a.told (Stands p es) → AnswersOver X N a.told d.told p es (placing_needs X N dest (row_name path) p es) (settled X N (say p) p es w) r
           → Answers X N (Stands p es) (settled X N (say p) p es w) r d.told
       over-answers p es w r stood (inl x) =
-          inl (record { ends_are = x.ends_are ∙ ap (λ (f : StoreFault). Err (refusal.Store f)) (loss-fault a.told (root_of X N p (Dir es) ++ blocks X N p (Dir es)) x.fault (needs-held a.told p es stood) x.loss); stands = named-stands X N a.told d.told p es es (stands-blocks X N a.told p es stood) x.stands })
+          inl (record { ends_are = x.ends_are ∙ ap (λ (f : StoreFault). Err (refusal.Store f)) (loss-fault a.told (placing_needs X N dest (row_name path) p es) x.fault (placing-held X N a.told p es dest (row_name path) stood) x.loss); stands = named-stands X N a.told d.told p es es (stands-blocks X N a.told p es stood) x.stands })
       over-answers p es w r stood (inr x) =
           let s = settled-stands p es w (stands-blocks X N a.told p es stood) x.stands in
           inr (record { ends_are = x.ends_are; stands = s.0; held = s.1 })
@@ -649,7 +656,7 @@ host-said : (path : List ℕ) (host : HostTold) (tree : HostTree) (say : HostTre
 host-said path None tree say g e h = absurd cc
 host-said path (Some other) tree say g e h = sym h ∙ (let same : other ≡ tree = cc in ap (λ (t : HostTree). host_tree path (say t)) same)
 
-host-ok : (path : List ℕ) (r : Result Tree HostFault) (t : Tree) → host_tree path r ≡ Ok t → r ≡ Ok t
+pub host-ok : (path : List ℕ) (r : Result Tree HostFault) (t : Tree) → host_tree path r ≡ Ok t → r ≡ Ok t
 host-ok path (Ok u) t is = (let same : u ≡ t = cc in ap (λ (t : Tree). Ok t) same)
 host-ok path (Err f) t is = absurd cc
 
@@ -658,7 +665,7 @@ host-is-said path None say t h = tt
 host-is-said path (Some tree) say t h = host-ok path (say tree) t h
 
 -- the tree of an input is its file
-file-of : (p : Profile) (bytes : List ℕ) (t : Tree) → Ok t ≡ input_tree p bytes → t ≡ File none bytes
+pub file-of : (p : Profile) (bytes : List ℕ) (t : Tree) → Ok t ≡ input_tree p bytes → t ≡ File none bytes
 file-of p bytes t is = by (nat_le (length bytes) (most_bytes p)) is
   where
     by : (few : Bool) → Ok t ≡ (if few then Ok (File none bytes) else Err (refusal.Rule FileTooLong)) → t ≡ File none bytes
@@ -698,56 +705,56 @@ module _ (X : List ℕ → List ℕ) (N : List ℕ → ℕ) where
   }
 
   pub of-input : (dest : Path) (l m : streams.Told) (i j : ℕ) (held : streams.Told) (w : ℕ) (side : HostSide) (er er2 : SinkSide) (done : Result (List ℕ) Refusal) (a d : Seen) (t0 t2 : ℕ)
-      → Ended X N dest None (λ p. SaysInput p l) (input_row X N) done a d t0 t2 → Counts (is_read done) i j → LeavesAlone (around a l i held w t0 side er) (around d m j held w t2 side er2) ⊎ HasBegun X N dest None done a d
+      → Ended X N dest None (λ p. SaysInput p l) (input_row X N) done a d t0 t2 → Counts (is_read done) i j → KeepsPut X N a d dest l → LeavesAlone (around a l i held w t0 side er) (around d m j held w t2 side er2) ⊎ HasBegun X N dest None done a d
       → Makes X N (Add (adding.InputTo dest)) done (around a l i held w t0 side er) (around d m j held w t2 side er2)
-  of-input dest l m i j held w side er er2 done a d t0 t2 e counts how = record {
+  of-input dest l m i j held w side er er2 done a d t0 t2 e counts saved how = record {
     answers = λ world stands input calm.
         answers-of X N dest None (λ p. SaysInput p l) (input_row X N) done a d t0 t2 (λ p. input_tree p world.input) e calm (not-read (is_read done) i j counts (input.0 refl).1)
         (λ p g said. input-said p l world.input g (input.0 refl).0 said) world.standing stands;
     lost = λ p es rows lookup outside named input calm.
         let o = e.over p es named calm (not-read (is_read done) i j counts (input.0 refl).1) in
-        subst (λ g. AnswersOver X N a.told d.told p es (root_of X N p (Dir es) ++ blocks X N p (Dir es)) (settled X N (input_row X N p) p es (placed X N (added_spot dest None es) g p es)) done) (input-said p l outside.input o.given (input.0 refl).0 o.said) o.ends;
+        subst (λ g. AnswersOver X N a.told d.told p es (placing_needs X N dest None p es) (settled X N (input_row X N p) p es (placed X N (added_spot dest None es) g p es)) done) (input-said p l outside.input o.given (input.0 refl).0 o.said) o.ends;
     kinds = e.kinds;
     ready = is-ready (Add (adding.InputTo dest)) a.told done (λ why h. h) e.ready;
     adds = ok-more (PrintsFor X N dest None (λ p. SaysInput p l) (input_row X N) a.told d.told) (IsRow X a.told d.told false l) done (input-row dest l a.told d.told) e.rows;
-    kept = tt;
+    kept = saved;
     reads = counts;
     host = refl;
     rows = any-text done;
     cause = e.cause;
     whole = e.whole;
-    touches = λ p es bytes rows named input heights calm. tt;
+    touches = λ p es bytes rows named input heights calm. e.touches p es named calm;
     touched = e.touched;
-    unready = λ or_none e is. by-head X N dest None done a d (LeavesAlone (around a l i held w t0 side er) (around d m j held w t2 side er2)) how is;
+    unready = λ may is. by-head X N dest None done a d (LeavesAlone (around a l i held w t0 side er) (around d m j held w t2 side er2)) how is;
     unplaced = λ p es names stood none. by-spot X N dest None done a d (LeavesAlone (around a l i held w t0 side er) (around d m j held w t2 side er2)) how p es names stood none;
     leaves = record { good = e.good; head = head-after done a.told d.told e.head; writes = e.writes; idle = λ p es bytes names calm same. absurd cc };
   }
 
   pub of-host : (recursive : Bool) (path : List ℕ) (dest : Path) (l : streams.Told) (i : ℕ) (held : streams.Told) (w : ℕ) (side side2 : HostSide) (er er2 : SinkSide) (done : Result (List ℕ) Refusal) (a d : Seen) (t0 t2 : ℕ)
-      → Ended X N dest (Some path) (λ p. SaysHost X N p side.told recursive path) (λ p. host_text X N p path) done a d t0 t2 → OnlyReadsHost (is_read done) side side2
+      → Ended X N dest (Some path) (λ p. SaysHost X N p side.told recursive path) (λ p. host_text X N p path) done a d t0 t2 → OnlyReadsHost (is_read done) side side2 → KeepsHosted X N a d recursive path dest side.told
       → LeavesAlone (around a l i held w t0 side er) (around d l i held w t2 side2 er2) ⊎ HasBegun X N dest (Some path) done a d
       → Makes X N (Add (adding.HostTo recursive path dest)) done (around a l i held w t0 side er) (around d l i held w t2 side2 er2)
-  of-host recursive path dest l i held w side side2 er er2 done a d t0 t2 e only how = record {
+  of-host recursive path dest l i held w side side2 er er2 done a d t0 t2 e only saved how = record {
     answers = λ world stands input calm.
         answers-of X N dest (Some path) (λ p. SaysHost X N p side.told recursive path) (λ p. host_text X N p path) done a d t0 t2 (λ p. host_tree path (tree_on_host X N p world.host recursive path)) e calm
         (not-read (is_read done) side.reads side2.reads only.reads (input.1 refl).1)
         (λ p g said. host-said path side.told world.host (λ tree. tree_on_host X N p tree recursive path) g (input.1 refl).0 said) world.standing stands;
     lost = λ p es rows lookup outside named input calm.
         let o = e.over p es named calm (not-read (is_read done) side.reads side2.reads only.reads (input.1 refl).1) in
-        subst (λ g. AnswersOver X N a.told d.told p es (root_of X N p (Dir es) ++ blocks X N p (Dir es)) (settled X N (host_text X N p path) p es (placed X N (added_spot dest (Some path) es) g p es)) done)
+        subst (λ g. AnswersOver X N a.told d.told p es (placing_needs X N dest (row_name (Some path)) p es) (settled X N (host_text X N p path) p es (placed X N (added_spot dest (Some path) es) g p es)) done)
         (host-said path side.told outside.host (λ tree. tree_on_host X N p tree recursive path) o.given (input.1 refl).0 o.said) o.ends;
     kinds = e.kinds;
     ready = is-ready (Add (adding.HostTo recursive path dest)) a.told done (λ why h. h) e.ready;
     adds = tt;
-    kept = tt;
+    kept = saved;
     reads = counts-still i;
     host = only;
     rows = ok-more (PrintsFor X N dest (Some path) (λ p. SaysHost X N p side.told recursive path) (λ p. host_text X N p path) a.told d.told) (AreHostRows X N a.told d.told side.told recursive false path) done (host-rows recursive path dest side.told a.told d.told) e.rows;
     cause = e.cause;
     whole = e.whole;
-    touches = λ p es bytes rows named input heights calm. tt;
+    touches = λ p es bytes rows named input heights calm. e.touches p es named calm;
     touched = e.touched;
-    unready = λ or_none e is. by-head X N dest (Some path) done a d (LeavesAlone (around a l i held w t0 side er) (around d l i held w t2 side2 er2)) how is;
+    unready = λ may is. by-head X N dest (Some path) done a d (LeavesAlone (around a l i held w t0 side er) (around d l i held w t2 side2 er2)) how is;
     unplaced = λ p es names stood none. by-spot X N dest (Some path) done a d (LeavesAlone (around a l i held w t0 side er) (around d l i held w t2 side2 er2)) how p es names stood none;
     leaves = record { good = e.good; head = head-after done a.told d.told e.head; writes = e.writes; idle = λ p es bytes names calm same. absurd cc };
   }

@@ -476,7 +476,7 @@ module _ (X : List ℕ → List ℕ) (N : List ℕ → ℕ) where
           whole = λ s needs stands calm. mk.whole s stands calm;
           touches = λ p es bytes rows named input heights calm. mk.touches p es bytes rows named input heights calm;
           touched = mk.touched;
-          unready = λ or_none e is. mk.unready or_none e is;
+          unready = λ e is. mk.unready e is;
           unplaced = λ p es names stood none. mk.unplaced p es names stood none;
           leaves = record {
             good = mk.leaves.good;
@@ -554,7 +554,7 @@ module _ (X : List ℕ → List ℕ) (N : List ℕ → ℕ) where
           whole = λ s needs stands calm. mk.whole s stands calm;
           touches = λ p es bytes rows named input heights calm. mk.touches p es bytes rows named input heights calm;
           touched = mk.touched;
-          unready = λ or_none e is. absurd cc;
+          unready = λ e is. absurd cc;
           unplaced = λ p es names stood none. (let x = mk.unplaced p es names stood none in record { told = x.told; left = x.left; reads = x.reads });
           leaves = record { good = mk.leaves.good; head = keeps-head (Ok tt) (natures.prints_after command) a.told b.told tt; writes = mk.leaves.writes; idle = mk.leaves.idle };
         }
@@ -601,13 +601,13 @@ module _ (X : List ℕ → List ℕ) (N : List ℕ → ℕ) where
               host = takes false true mk.host;
               gets = alone-gets command alone status.WriteFault a.told side.told side2.told;
               pins = alone-pins command alone (Err refusal.Write) a.told b.told;
-              kept = kept-by X N command status.Ok status.WriteFault a.told b.told side.told l (λ e. cc) (λ e. cc) mk.kept;
+              kept = kept-by X N command status.Ok status.WriteFault a b side.told l (λ e. cc) (λ e. cc) mk.kept;
               writes = rises true v (record { rose = c.counts.rose; still = c.counts.still });
               cause = mk.cause;
               whole = λ s needs stands calm. (λ e. cc, λ e. cc);
               touches = λ p es bytes rows named input heights calm. mk.touches p es bytes rows named input heights calm;
               touched = λ blames. absurd blames;
-              unready = λ or_none e is. absurd cc;
+              unready = λ e is. absurd cc;
               unplaced = λ p es names stood none. (let x = mk.unplaced p es names stood none in record { told = x.told; left = x.left; reads = x.reads });
               leaves = record { good = mk.leaves.good; head = some-stays text (natures.prints_after command) a.told b.told c.some mk.leaves.head; writes = mk.leaves.writes; idle = mk.leaves.idle };
             }

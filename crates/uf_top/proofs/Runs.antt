@@ -49,7 +49,7 @@ module _ (given : Status) (X : List ℕ → List ℕ) (N : List ℕ → ℕ) (a 
       head = λ unmoved. head-told a b given X N command done s t unmoved;
       told = λ is. told-same a b given X N command done s is;
       idle = λ p es bytes names input faults is. idle-told a b given X N command done s p es bytes names input faults is;
-      unready = λ or_none needs is. unready-told a b given X N command done s t or_none needs is;
+      unready = λ is. unready-told a b given X N command done s (kinds-told a b given command done kinds t) t is;
       unplaced = λ p es names stood none. unplaced-told a b given X N command done s p es names stood none;
       host = λ is. host-told a b given X N command done s is;
       gets = gets-told a b given X N command done s t;

@@ -169,13 +169,13 @@ module _ (X : List ℕ → List ℕ) (N : List ℕ → ℕ) (a : Around) (er2 : 
     host = still-host command;
     gets = nothing-gotten command a.store.told a.host.told;
     pins = nothing-pinned command a.store.told;
-    kept = nothing-kept X N command status.Memory a.store.told a.host.told a.left (λ e. cc);
+    kept = nothing-kept X N command status.Memory a.store a.host.told a.left (λ e. cc);
     writes = still-written command;
     cause = calm-memory a.store a.store (StaysCalm-refl a.store);
     whole = λ s needs stands calm. (λ e. cc, λ e. cc);
     touches = λ p es bytes rows named input heights calm. no-touch (command_touches X N rows bytes command p es) a.touches;
     touched = λ blames. absurd blames;
-    unready = λ or_none e is. record { told = refl; left = refl; reads = refl };
+    unready = λ e is. record { told = refl; left = refl; reads = refl };
     unplaced = λ p es names stood none. record { told = refl; left = refl; reads = refl };
     leaves = record { good = KeepsGood-refl X a.store.told; head = keeps-head (Err no_memory) (prints_after command) a.store.told a.store.told refl; writes = memory-writes X command a.store.told; idle = λ p es bytes stands calm same. refl };
   }

@@ -1,5 +1,5 @@
 -- The steps of what is added to where a path of the tree leads: the spot, what is read, and what is put.
-use Rattle.std.proofs.Common.{◌≡◌, ◌⊎◌, ℕ, ◌≤◌, ◌<◌, List, [], ◌++◌, length, arith, Bool, true, false, cond, nat_lt, refl, sym, ap, subst, ◌∙◌, inl, inr, Option, Some, None, Result, Ok, Err}
+use Rattle.std.proofs.Common.{◌≡◌, ◌⊎◌, ℕ, ◌+◌, ◌*◌, ◌≤◌, ◌<◌, List, [], ◌++◌, length, arith, Bool, true, false, cond, nat_lt, refl, sym, ap, subst, ◌∙◌, inl, inr, Option, Some, None, Result, Ok, Err}
 use Rattle.std.specs.Prelude.{if◌then◌else◌, IsTrue}
 use Rattle.std.specs.List.{flat_map}
 use Rattle.std.proofs.lemmas.Bool.{le-leb, lt-leb}
@@ -17,14 +17,16 @@ use Rattle.uf_adopt.specs.Adopting.{IsBuilt}
 use Rattle.uf_edge.specs.Host.{HostTold}
 use Rattle.uf_mfs.specs.Answers.{ShownInTree, ShownOpening}
 use Rattle.uf_mfs.specs.Bad.{IsBadInHead, IsBadInTree}
-use Rattle.uf_mfs.specs.Moving.{GivesOr, GivesOver}
+use Rattle.uf_cid.specs.Blocks.{Held}
+use Rattle.uf_mfs.specs.Missing.{PutMisses, SpotMisses, put_names, put_needs, spot_needs}
+use Rattle.uf_mfs.specs.Moving.{GivesOr, GivesOver, put_crossings}
 use Rattle.uf_mfs.specs.Standing.{Commits, IsPlanOf, IsWanting, LeavesHead, NamesOver, Opens, OpensOver, ReadsHead, Same, StandsAfter, StandsOver, TellsAs}
 use Rattle.uf_mfs.specs.Steps.{IsFolderOver, MovesTree, tree_fault}
-use Rattle.uf_mfs.specs.Touches.{CountsUp}
+use Rattle.uf_mfs.specs.Touches.{CountsUp, TouchesPut}
 use Rattle.uf_mfs.specs.declared.fault.MfsFault.{MfsFault}
 use Rattle.uf_mfs.specs.declared.fault.MfsFault.TheVariants as mfs
 use Rattle.uf_mfs.specs.declared.mfs.Mfs.{Mfs}
-use Rattle.uf_mfs.proofs.Holding.{loss-front}
+use Rattle.uf_mfs.proofs.Holding.{loss-front, tells-agrees}
 use Rattle.uf_mfs.proofs.Starting.{leaves-head, saves-head}
 use Rattle.uf_path.specs.declared.path.Path.{Path}
 use Rattle.uf_plain.specs.Moves.{allowed_move, placed_at, put_at_spot, spot_names, spotted}
@@ -36,7 +38,7 @@ use Rattle.uf_plain.specs.declared.spot.Spot.{Spot}
 use Rattle.uf_store.specs.Calls.{OnlySaves}
 use Rattle.uf_store.specs.Contents.{Told}
 use Rattle.uf_store.specs.Faults.{NoneIsBad, Shown, StaysCalm}
-use Rattle.uf_store.specs.Keeping.{Holds, KeepsGood}
+use Rattle.uf_store.specs.Keeping.{Agrees, Holds, KeepsGood}
 use Rattle.uf_store.specs.Lost.{IsLossOf}
 use Rattle.uf_store.specs.Seen.{Seen}
 use Rattle.uf_store.specs.declared.store.StoreFault.{StoreFault}
@@ -44,7 +46,7 @@ use Rattle.uf_store.specs.declared.store.StoreFault.TheVariants as fault
 use Rattle.uf_store.specs.Writing.{SavesOnly}
 use Rattle.uf_store.proofs.Calls.{shown-after, shown-rises, stood-back, stood-front}
 use Rattle.uf_store.proofs.Causes.{StaysCalm-trans, calm-memory, calm-rises}
-use Rattle.uf_store.proofs.Keeping.{KeepsGood-trans}
+use Rattle.uf_store.proofs.Keeping.{Holds-kept, KeepsGood-trans}
 use Rattle.uf_tree.specs.FilePlan.{file_plan}
 use Rattle.uf_tree.specs.Metas.{none}
 use Rattle.uf_tree.specs.Names.{is_name}
@@ -68,17 +70,23 @@ use Rattle.uf_top.specs.Grafts.{FollowsOr, IsLostBy, IsOkFor}
 use Rattle.uf_top.specs.HostTexts.{host_row, host_text}
 use Rattle.uf_top.specs.Hosted.{IsHostRefused}
 use Rattle.uf_build.specs.Intake.{IsWholeFile, PassesMost}
+use Rattle.uf_top.specs.Losing.{placing_needs, row_name}
 use Rattle.uf_top.specs.Naming.{NamesAfter}
-use Rattle.uf_top.specs.Placing.{EndsWith, FindsSpot, GivesFor, GivesRows, HasLast, IsFoundAt, IsGiven, IsReadyIn, IsUngiven, OpensFound, PutsFrom, PutsGiven, SaysHost, SaysInput, kinds_placing}
+use Rattle.uf_top.specs.Placing.{EndsWith, FindsSpot, GivesFor, GivesRows, HasLast, IsFoundAt, IsGiven, IsReadyIn, IsUngiven, OpensFound, PutTouches, PutsFrom, PutsGiven, SaysHost, SaysInput, kinds_placing}
+use Rattle.uf_top.specs.Around.{CountsCanRise}
+use Rattle.uf_top.specs.Saving.{SavesNoOther}
+use Rattle.uf_mfs.specs.Saving.{SavesForPut, next_blocks}
+use Rattle.uf_top.proofs.Standings.{tree-good}
 use Rattle.uf_top.specs.Reply.{added_name, added_spot, by_rule, good_name, host_tree, input_row, input_tree}
 use Rattle.uf_top.specs.declared.given.OpenSpot.{OpenSpot}
 use Rattle.uf_top.specs.declared.given.Given.{Given}
 use Rattle.uf_top.proofs.Added.{given_few, left_are}
 use Rattle.uf_top.proofs.Classed.{tree-kinds}
 use Rattle.uf_top.proofs.InTree.{opening-ready, tree-wants}
-use Rattle.uf_top.proofs.Losing.{became, commits-agrees}
-use Rattle.uf_top.proofs.Placed.{IsOfTree, lost-behind, tree-rule, tree-store}
-use Rattle.uf_top.proofs.Putting.{gives-ok, gives-stop, ok-for, ok-value, put_gives}
+use Rattle.uf_top.proofs.Losing.{became, commits-agrees, leaves-agrees}
+use Rattle.uf_top.proofs.Placed.{IsOfTree, tree-rule, tree-store}
+use Rattle.uf_top.proofs.Putting.{added-names, gives-misses, gives-ok, gives-stop, needs_at_spot, ok-for, ok-value, put_gives, put_within, tells-of}
+use Rattle.uf_top.proofs.Saved.{agrees-both, no-other-among, no-other-commits, no-other-leaves, no-other-trans, throughout}
 use Rattle.uf_top.proofs.Shows.{head_of, Shown-opening, Shown-tree, opening-touched, tree-touched}
 
 -- ---- faults
@@ -106,8 +114,8 @@ module _ (X : List ℕ → List ℕ) (N : List ℕ → ℕ) (dest : Path) (path 
   -- the tree isn't opened
   pub unopened : (f : MfsFault) (why : Refusal) → RefusesOpening f why → ((s : Standing) → TellsAs X N a.told s → Stood a.faults m.faults → Opens X N m.told s (Err f))
       → ((p : Profile) (es : Entries) → NamesOver X N a.told p es → Stood a.faults m.faults → OpensOver X N a.told p es (Err f))
-      → ReadsHead a.told (Err f) → ShownOpening X (IsBadInHead X N a.told) {A = Mfs} (Err f) a m → CountsUp (tree_fault {A = Mfs} (Err f)) t0 t1 → FindsSpot X N dest path (Err why) a m t0 t1
-  unopened f why is opens lost head cause up = record {
+      → ReadsHead a.told (Err f) → ShownOpening X (IsBadInHead X N a.told) {A = Mfs} (Err f) a m → t1 ≤ t0 + 1 → CountsUp (tree_fault {A = Mfs} (Err f)) t0 t1 → FindsSpot X N dest path (Err why) a m t0 t1
+  unopened f why is opens lost head cause few up = record {
     opens = λ s stands stood. by-standing s f is (opens s stands stood);
     lost = λ p es names stood. inl (by-loss p es f is (lost p es names stood));
     head = tt;
@@ -116,6 +124,7 @@ module _ (X : List ℕ → List ℕ) (N : List ℕ → ℕ) (dest : Path) (path 
     kinds = by-kind f is;
     unread = by-read f is;
     reads = record { cause = Shown-opening Mfs X (IsBadInHead X N a.told) (IsBadInHead X N a.told) (λ role bytes bad. bad) f why a m is cause; told = told };
+    touches = omega (arith, few);
     touched = opening-touched Mfs f why t0 t1 is up;
   }
     where
@@ -130,11 +139,11 @@ module _ (X : List ℕ → List ℕ) (N : List ℕ → ℕ) (dest : Path) (path 
       by-standing BadHead (mfs.Store g) is h = inl (is ∙ ap refusal.Store h)
       by-standing (Stands p es) f is h = tt
 
-      by-loss : (p : Profile) (es : Entries) (f : MfsFault) → RefusesOpening f why → OpensOver X N a.told p es (Err f) → IsLostBy a.told (root_of X N p (Dir es) ++ blocks X N p (Dir es)) why
+      by-loss : (p : Profile) (es : Entries) (f : MfsFault) → RefusesOpening f why → OpensOver X N a.told p es (Err f) → IsLostBy a.told (placing_needs X N dest (row_name path) p es) why
       by-loss p es (mfs.Rule rule) is h = absurd h
       by-loss p es (mfs.Ready r) is h = absurd h
       by-loss p es mfs.Sink is h = absurd h
-      by-loss p es (mfs.Store g) is h = subst (IsLostBy a.told (root_of X N p (Dir es) ++ blocks X N p (Dir es))) (sym is) (loss-front a.told (root_of X N p (Dir es)) (blocks X N p (Dir es)) g h)
+      by-loss p es (mfs.Store g) is h = subst (IsLostBy a.told (placing_needs X N dest (row_name path) p es)) (sym is) (loss-front a.told (root_of X N p (Dir es)) (put_needs X N p (put_names dest (row_name path)) (Dir es)) g h)
 
       by-ready : (f : MfsFault) → RefusesOpening f why → ReadsHead a.told (Err f) → IsReadyIn a.told why
       by-ready (mfs.Rule rule) is h = absurd is
@@ -156,7 +165,7 @@ module _ (X : List ℕ → List ℕ) (N : List ℕ → ℕ) (dest : Path) (path 
 
   module _ (tree : Mfs) (opens : (s : Standing) → TellsAs X N a.told s → Stood a.faults m.faults → Opens X N m.told s (Ok tree))
       (lost : (p : Profile) (es : Entries) → NamesOver X N a.told p es → Stood a.faults m.faults → OpensOver X N a.told p es (Ok tree))
-      (head : ReadsHead a.told (Ok tree)) (calm : StaysCalm a m) (low : t0 ≤ t1) where
+      (head : ReadsHead a.told (Ok tree)) (calm : StaysCalm a m) (few : t1 ≤ t0 + 1) (low : t0 ≤ t1) where
     stands-open : {B : Type 0} (r : Result B Refusal) (s : Standing) → TellsAs X N a.told s → Stood a.faults m.faults → OpensFound s r
     stands-open r NoHead stands stood = absurd (opens NoHead stands stood)
     stands-open r BadHead stands stood = absurd (opens BadHead stands stood)
@@ -198,6 +207,7 @@ module _ (X : List ℕ → List ℕ) (N : List ℕ → ℕ) (dest : Path) (path 
       kinds = of.tree_or;
       unread = of.unread;
       reads = record { cause = of.shown; told = told };
+      touches = omega (arith, few);
       touched = of.up;
     }
       where
@@ -208,8 +218,8 @@ module _ (X : List ℕ → List ℕ) (N : List ℕ → ℕ) (dest : Path) (path 
             by (inl e) = subst IsOfName (sym e) memory-name
             by (inr is) = name-refused path why refl is
 
-        follow : (p : Profile) (es : Entries) → (why ≡ no_memory) ⊎ (added_name dest path ≡ Err why) → IsLostBy a.told (root_of X N p (Dir es) ++ blocks X N p (Dir es)) why ⊎ (added_spot dest path es ≡ Err why)
-        follow p es (inl e) = inl (subst (IsLostBy a.told (root_of X N p (Dir es) ++ blocks X N p (Dir es))) (sym e) tt)
+        follow : (p : Profile) (es : Entries) → (why ≡ no_memory) ⊎ (added_name dest path ≡ Err why) → IsLostBy a.told (placing_needs X N dest (row_name path) p es) why ⊎ (added_spot dest path es ≡ Err why)
+        follow p es (inl e) = inl (subst (IsLostBy a.told (placing_needs X N dest (row_name path) p es)) (sym e) tt)
         follow p es (inr is) = inr (ap (λ (n : Result (Option (List ℕ)) Refusal). n >>= λ name. by_rule (spotted dest name es)) is)
 
     -- the name is found, and the spot looked for
@@ -219,42 +229,53 @@ module _ (X : List ℕ → List ℕ) (N : List ℕ → ℕ) (dest : Path) (path 
           let v = ok-value (λ (n : Option (List ℕ)). name ≡ n) (added_name dest path) named in
           sym (ap (λ (n : Result (Option (List ℕ)) Refusal). n >>= λ name. by_rule (spotted dest name es)) (v.1 ∙ ap (λ (n : Option (List ℕ)). Ok n) (sym v.2)))
 
+      put-at : put_names dest name ≡ put_names dest (row_name path)
+      put-at =
+          let v = ok-value (λ (n : Option (List ℕ)). name ≡ n) (added_name dest path) named in
+          added-names dest path name (v.1 ∙ ap (λ (n : Option (List ℕ)). Ok n) (sym v.2))
+
       over-open : (p : Profile) (es : Entries) → NamesOver X N a.told p es → Stood a.faults m.faults → StandsOver X N m.told tree p es
       over-open p es names stood = subst (λ t. StandsOver X N t tree p es) (sym told) (lost p es names stood)
 
       front : m.faults ≤ b.faults → Stood a.faults b.faults → Stood a.faults m.faults
       front later stood = stood-front a.faults m.faults b.faults calm.faults later stood
 
-      pub unspotted : (f : MfsFault) (why : Refusal) → RefusesInTree f why → ShownInTree X (IsBadInTree X N None tree.root.cid) {A = Spot} (Err f) m b → b.told ≡ m.told → CountsUp (tree_fault {A = Spot} (Err f)) t1 t2
+      pub unspotted : (f : MfsFault) (why : Refusal) → RefusesInTree f why → ShownInTree X (IsBadInTree X N None tree.root.cid) {A = Spot} (Err f) m b → b.told ≡ m.told → t2 ≤ t1 + 11 * (length dest.names + 1) → CountsUp (tree_fault {A = Spot} (Err f)) t1 t2
+          → SpotMisses X N m b tree (put_names dest name) (tree_fault {A = Spot} (Err f))
           → ((p : Profile) (es : Entries) → StandsOver X N m.told tree p es → Stood m.faults b.faults → GivesOver X N m.told p es (λ (spot given : Spot). given ≡ spot) (spotted dest name es) (Err f))
           → FindsSpot X N dest path (Err why) a b t0 t2
-      unspotted f why is cause again up finds =
+      unspotted f why is cause again more_few up misses finds =
           let shown = Shown-tree Spot X (IsBadInTree X N None tree.root.cid) (IsBadInHead X N a.told) (λ role bytes bad. record { head = head_of tree; is_told = head; bad = bad }) f why m b is cause in
           let both = shown-after X (IsBadInHead X N a.told) (fault_behind why) a m b calm shown in
           let later = (shown-rises X (IsBadInHead X N a.told) (fault_behind why) m b shown).faults in
           let more = tree-touched Spot f why t1 t2 is up in
           record {
             opens = λ s stands stood. stands-open (Err why) s stands (front later stood);
-            lost = λ p es names stood. follow p es (gives-stop m.told (blocks X N p (Dir es)) (λ (spot given : Spot). given ≡ spot) (spotted dest name es) f why is
-                (finds p es (over-open p es names (front later stood)) (stood-back a.faults m.faults b.faults calm.faults stood)));
+            lost = λ p es names stood.
+                let over = over-open p es names (front later stood) in
+                let on = stood-back a.faults m.faults b.faults calm.faults stood in
+                let needs = spot_needs X N p (put_names dest name) (Dir es) in
+                follow p es (gives-stop m.told needs (λ (spot given : Spot). given ≡ spot) (spotted dest name es) f why is
+                (gives-misses m.told needs (blocks X N p (Dir es)) (λ (spot given : Spot). given ≡ spot) (spotted dest name es) (Err f) (misses p es over on) (finds p es over on)));
             head = tt;
             mfs = tt;
             ready = not-ready-in a.told f why is;
             kinds = (fault-tree path f why is).kind;
             unread = (fault-tree path f why is).unread;
             reads = record { cause = both; told = again ∙ told };
+            touches = omega (arith, few, more_few);
             touched = record { kept = (let k = more.kept in omega (arith, low, k)); risen = λ blames. let k = more.risen blames in omega (arith, low, k) };
           }
         where
-          follow : (p : Profile) (es : Entries) → IsLostBy m.told (blocks X N p (Dir es)) why ⊎ (by_rule (spotted dest name es) ≡ Err why)
-              → IsLostBy a.told (root_of X N p (Dir es) ++ blocks X N p (Dir es)) why ⊎ (added_spot dest path es ≡ Err why)
-          follow p es (inl lost) = inl (lost-behind a.told (root_of X N p (Dir es)) (blocks X N p (Dir es)) why (subst (λ t. IsLostBy t (blocks X N p (Dir es)) why) told lost))
+          follow : (p : Profile) (es : Entries) → IsLostBy m.told (spot_needs X N p (put_names dest name) (Dir es)) why ⊎ (by_rule (spotted dest name es) ≡ Err why)
+              → IsLostBy a.told (placing_needs X N dest (row_name path) p es) why ⊎ (added_spot dest path es ≡ Err why)
+          follow p es (inl lost) = inl (subst (λ ns. IsLostBy a.told (spot_needs X N p ns (Dir es)) why) put-at (subst (λ t. IsLostBy t (spot_needs X N p (put_names dest name) (Dir es)) why) told lost))
           follow p es (inr is) = inr (sym (spot-by es) ∙ is)
 
-      pub found-spot : (spot : Spot) → StaysCalm m b → b.told ≡ m.told → CountsUp None t1 t2 → IsTrue (is_profile tree.profile)
+      pub found-spot : (spot : Spot) → StaysCalm m b → b.told ≡ m.told → t2 ≤ t1 + 11 * (length dest.names + 1) → CountsUp None t1 t2 → IsTrue (is_profile tree.profile)
           → ((p : Profile) (es : Entries) → StandsOver X N m.told tree p es → Stood m.faults b.faults → GivesOver X N m.told p es (λ (spot given : Spot). given ≡ spot) (spotted dest name es) (Ok spot))
           → FindsSpot X N dest path (Ok (record { tree = tree; spot = spot })) a b t0 t2
-      found-spot spot later again up mfs finds = record {
+      found-spot spot later again more_few up mfs finds = record {
         opens = λ s stands stood. stands-open (Ok (record { tree = tree; spot = spot })) s stands (front (calm-rises m b later).faults stood);
         lost = λ p es names stood.
             let over = over-open p es names (front (calm-rises m b later).faults stood) in
@@ -266,6 +287,7 @@ module _ (X : List ℕ → List ℕ) (N : List ℕ → ℕ) (dest : Path) (path 
         kinds = tt;
         unread = refl;
         reads = record { cause = StaysCalm-trans a m b calm later; told = again ∙ told };
+        touches = omega (arith, few, more_few);
         touched = record { kept = (let k = up.kept in omega (arith, low, k)); risen = λ blames. absurd blames };
       }
 
@@ -278,12 +300,25 @@ module _ (X : List ℕ → List ℕ) (N : List ℕ → ℕ) (tree new : Mfs) (sp
   -- said of the profile of the tree
   puts-by : (done : Result (List ℕ) Refusal) (start d : Seen)
       → ((t : Tree) (es : Entries) → OnlySaves X NoneIsBad None start b → HasHeldPlan X N tree.profile b.told t → given.entry ≡ entry X N tree.profile t → IsFolderOver X N tree.profile start d [] tree.root es
-      → FollowsOr (IsLostBy start.told (blocks X N tree.profile (Dir es))) (λ next text. NamesAfter X N start.told d.told (blocks X N tree.profile (Dir es)) tree.profile next) (by_rule (allowed_move X N tree.profile (placed_at spot t es))) done)
+      → FollowsOr (IsLostBy start.told (needs_at_spot X N spot tree.profile es)) (λ next text. NamesAfter X N start.told d.told (blocks X N tree.profile (Dir es)) tree.profile next) (by_rule (allowed_move X N tree.profile (placed_at spot t es))) done)
       → PutsFrom X N at_spot given done start b d
   puts-by done start d h = λ t p es saves same.
       subst (λ p. HasHeldPlan X N p b.told t → given.entry ≡ entry X N p t → IsFolderOver X N p start d [] tree.root es
-      → FollowsOr (IsLostBy start.told (blocks X N p (Dir es))) (λ next text. NamesAfter X N start.told d.told (blocks X N p (Dir es)) p next) (by_rule (allowed_move X N p (placed_at spot t es))) done) same
+      → FollowsOr (IsLostBy start.told (needs_at_spot X N spot p es)) (λ next text. NamesAfter X N start.told d.told (blocks X N p (Dir es)) p next) (by_rule (allowed_move X N p (placed_at spot t es))) done) same
       (λ plan is over. h t es saves plan is over)
+
+  -- and so of the touches
+  touches-by : (start d : Seen) (t2 : ℕ)
+      → ((t : Tree) (es : Entries) → OnlySaves X NoneIsBad None start b → HasHeldPlan X N tree.profile b.told t → given.entry ≡ entry X N tree.profile t → IsFolderOver X N tree.profile start d [] tree.root es
+      → t2 ≤ t0 + (40 * length (spot_names spot) + put_crossings X N tree.profile spot t es))
+      → PutTouches X N at_spot given start b d t0 t2
+  touches-by start d t2 h = λ t p es saves same.
+      subst (λ p. HasHeldPlan X N p b.told t → given.entry ≡ entry X N p t → IsFolderOver X N p start d [] tree.root es → t2 ≤ t0 + (40 * length (spot_names spot) + put_crossings X N p spot t es)) same
+      (λ plan is over. h t es saves plan is over)
+
+  -- the touches of the put
+  abbrev pub put_most : Tree → Entries → ℕ
+  put_most t es = 40 * length (spot_names spot) + put_crossings X N tree.profile spot t es
 
   built : (t : Tree) → HasHeldPlan X N tree.profile b.told t → given.entry ≡ entry X N tree.profile t → IsBuilt X N tree.profile b.told t given.entry
   built t plan is = record { tree = plan.tree; planned = plan.whole; is = is; held = plan.held }
@@ -291,24 +326,44 @@ module _ (X : List ℕ → List ℕ) (N : List ℕ → ℕ) (tree new : Mfs) (sp
   plan-of : (t : Tree) → HasHeldPlan X N tree.profile b.told t → given.entry ≡ entry X N tree.profile t → IsPlanOf X N tree.profile given.entry t
   plan-of t plan is = record { profile = mfs; tree = plan.tree; planned = plan.whole; is = is }
 
-  module _ (r : Result (Unit {0}) MfsFault) (moves : (t : Tree) → IsPlanOf X N tree.profile given.entry t → MovesTree X N b c (blocks X N tree.profile t) tree new (spot_names spot) (λ p es. allowed X N p (put_at_spot spot t es)) r) where
+  module _ (r : Result (Unit {0}) MfsFault) (moves : (t : Tree) → IsPlanOf X N tree.profile given.entry t → MovesTree X N b c (blocks X N tree.profile t) tree new (spot_names spot) (λ p es. allowed X N p (put_at_spot spot t es)) r) (misses : PutMisses X N tree.profile b c tree.root (spot_names spot) (tree_fault r)) where
     gives : {fault : Option StoreFault} (t : Tree) (es : Entries) (start : Seen) → OnlySaves X NoneIsBad None start b → OnlySaves X (IsBadInTree X N (Some tree.profile) tree.root.cid) fault b c
         → HasHeldPlan X N tree.profile b.told t → given.entry ≡ entry X N tree.profile t → IsFolderOver X N tree.profile start c [] tree.root es
-        → GivesOr (IsLossOf start.told (blocks X N tree.profile (Dir es))) (λ fs done. StandsAfter X N start.told c.told (blocks X N tree.profile (Dir es)) new tree.profile fs) (allowed_move X N tree.profile (placed_at spot t es)) r
+        → GivesOr (IsLossOf start.told (needs_at_spot X N spot tree.profile es)) (λ fs done. StandsAfter X N start.told c.told (blocks X N tree.profile (Dir es)) new tree.profile fs) (allowed_move X N tree.profile (placed_at spot t es)) r
     gives t es start first second plan is over =
-        put_gives X N tree new first second (λ f u h. record { profile = mfs; tree = h.tree; planned = h.planned; is = h.is }) spot t given.entry es r (built t plan is) (moves t (plan-of t plan is)) over
+        put_gives X N tree new first second (λ f u h. record { profile = mfs; tree = h.tree; planned = h.planned; is = h.is }) spot t given.entry es r (built t plan is) (moves t (plan-of t plan is)) misses over
+
+  -- how many touches the put took
+  within : {fault : Option StoreFault} (t : Tree) (es : Entries) (start : Seen) → TouchesPut X N tree.profile b c given.entry tree.root put_most t0 t1 → OnlySaves X NoneIsBad None start b → OnlySaves X (IsBadInTree X N (Some tree.profile) tree.root.cid) fault b c
+      → HasHeldPlan X N tree.profile b.told t → given.entry ≡ entry X N tree.profile t → IsFolderOver X N tree.profile start c [] tree.root es → t1 ≤ t0 + put_most t es
+  within t es start touches first second plan is over =
+      put_within X N tree new first second (λ f u h. record { profile = mfs; tree = h.tree; planned = h.planned; is = h.is }) t given.entry es put_most t0 t1 (built t plan is) touches over
+
+  -- what the put saved, where a failure or a clash would show
+  pub placed-saves : KeepsGood X b.told c.told → SavesForPut X N b c tree given.entry spot → (t : Tree) (p : Profile) (es : Entries) → tree.profile ≡ p → HasHeldPlan X N p b.told t → given.entry ≡ entry X N p t
+      → StandsOver X N b.told tree p es → Agrees c.told (blocks X N p (Dir es)) → CountsCanRise b → SavesNoOther X (next_blocks X N p (put_at_spot spot t es)) b.told c.told
+  placed-saves good saves t p es same plan is over last can =
+      let held = Holds-kept X b.told c.told (blocks X N p t) (tree-good X N p t) good plan.held in
+      let first = tells-agrees b.told (blocks X N p t) (tells-of b.told (blocks X N p (Dir es)) (blocks X N p t) over.root.agrees plan.held) in
+      let later = tells-agrees c.told (blocks X N p t) (tells-of c.told (blocks X N p (Dir es)) (blocks X N p t) last held) in
+      no-other-among X (next_blocks X N p (put_at_spot spot t es)) b.told c.told
+      (saves p t es (record { profile = subst (λ (q : Profile). IsTrue (is_profile q)) same mfs; tree = plan.tree; planned = plan.whole; is = is }) over
+      (throughout b c (blocks X N p t ++ blocks X N p (Dir es)) (agrees-both b.told (blocks X N p t) (blocks X N p (Dir es)) first over.root.agrees) (agrees-both c.told (blocks X N p t) (blocks X N p (Dir es)) later last) can))
 
   -- it isn't placed
-  pub unplaced : (f : MfsFault) (why : Refusal) → RefusesInTree f why → ShownInTree X (IsBadInTree X N (Some tree.profile) tree.root.cid) {A = Unit {0}} (Err f) b c → KeepsGood X b.told c.told → SavesOnly X b.told c.told → CountsUp (tree_fault {A = Unit {0}} (Err f)) t0 t1
+  pub unplaced : (f : MfsFault) (why : Refusal) → RefusesInTree f why → ShownInTree X (IsBadInTree X N (Some tree.profile) tree.root.cid) {A = Unit {0}} (Err f) b c → KeepsGood X b.told c.told → SavesOnly X b.told c.told → SavesForPut X N b c tree given.entry spot → CountsUp (tree_fault {A = Unit {0}} (Err f)) t0 t1
+      → TouchesPut X N tree.profile b c given.entry tree.root put_most t0 t1 → PutMisses X N tree.profile b c tree.root (spot_names spot) (tree_fault {A = Unit {0}} (Err f))
       → ((t : Tree) → IsPlanOf X N tree.profile given.entry t → MovesTree X N b c (blocks X N tree.profile t) tree new (spot_names spot) (λ p es. allowed X N p (put_at_spot spot t es)) (Err f))
       → PutsGiven X N at_spot given (Err why) b c t0 t1
-  unplaced f why is cause good saves up moves =
+  unplaced f why is cause good saves no_other up touches misses moves =
       let shown = Shown-tree (Unit {0}) X (IsBadInTree X N (Some tree.profile) tree.root.cid) (IsBadInTree X N (Some tree.profile) tree.root.cid) (λ role bytes bad. bad) f why b c is cause in
       let second : OnlySaves X (IsBadInTree X N (Some tree.profile) tree.root.cid) (fault_behind why) b c = record { cause = shown; good = good; saves = saves } in
       record {
         puts = λ start. puts-by (Err why) start c (λ t es first plan is2 over.
-            gives-stop {B = Unit {0}} start.told (blocks X N tree.profile (Dir es)) (λ fs done. StandsAfter X N start.told c.told (blocks X N tree.profile (Dir es)) new tree.profile fs) (allowed_move X N tree.profile (placed_at spot t es)) f why is
-            (gives (Err f) moves t es start first second plan is2 over));
+            gives-stop {B = Unit {0}} start.told (needs_at_spot X N spot tree.profile es) (λ fs done. StandsAfter X N start.told c.told (blocks X N tree.profile (Dir es)) new tree.profile fs) (allowed_move X N tree.profile (placed_at spot t es)) f why is
+            (gives (Err f) moves misses t es start first second plan is2 over));
+        touches = λ start. touches-by start c t1 (λ t es first plan is2 over. within t es start touches first second plan is2 over);
+        no_other = placed-saves good no_other;
         text = tt;
         kinds = tree-kinds f why is;
         cause = shown;
@@ -318,11 +373,27 @@ module _ (X : List ℕ → List ℕ) (N : List ℕ → ℕ) (tree new : Mfs) (sp
         writes = record { between = c.told; saves = saves; last = Same refl };
       }
 
-  module _ (calm : StaysCalm b c) (good : KeepsGood X b.told c.told) (saves : SavesOnly X b.told c.told)
+  module _ (calm : StaysCalm b c) (good : KeepsGood X b.told c.told) (saves : SavesOnly X b.told c.told) (no_other : SavesForPut X N b c tree given.entry spot)
       (moves : (t : Tree) → IsPlanOf X N tree.profile given.entry t → MovesTree X N b c (blocks X N tree.profile t) tree new (spot_names spot) (λ p es. allowed X N p (put_at_spot spot t es)) (Ok tt))
-      (d : Seen) (kept : KeepsGood X c.told d.told) (t2 : ℕ) (low : t0 ≤ t1) where
+      (touches : TouchesPut X N tree.profile b c given.entry tree.root put_most t0 t1) (d : Seen) (kept : KeepsGood X c.told d.told) (t2 : ℕ) (no_more : t2 ≡ t1) (low : t0 ≤ t1) where
     placed_by : OnlySaves X (IsBadInTree X N (Some tree.profile) tree.root.cid) None b c
     placed_by = record { cause = calm; good = good; saves = saves }
+
+    -- the tree before the commit
+    before-commit : (start : Seen) (es : Entries) → OnlySaves X NoneIsBad None start b → ((l : List Held) → Agrees d.told l → Agrees c.told l) → c.faults ≤ d.faults → c.clashes ≤ d.clashes → IsFolderOver X N tree.profile start d [] tree.root es
+        → IsFolderOver X N tree.profile start c [] tree.root es
+    before-commit start es first agrees faults clashes over = record {
+      plan = over.plan;
+      stays = record { first = over.stays.first; last = agrees (blocks X N tree.profile (Dir es)) over.stays.last };
+      calm = record {
+        faults = stood-front start.faults c.faults d.faults (calm.faults ∙ first.cause.faults) faults over.calm.faults;
+        clashes = stood-front start.clashes c.clashes d.clashes (calm.clashes ∙ first.cause.clashes) clashes over.calm.clashes;
+      };
+    }
+
+    within-commit : (start : Seen) → ((l : List Held) → Agrees d.told l → Agrees c.told l) → c.faults ≤ d.faults → c.clashes ≤ d.clashes → PutTouches X N at_spot given start b d t0 t2
+    within-commit start agrees faults clashes = touches-by start d t2 (λ t es first plan is2 over.
+        let most = within t es start touches first placed_by plan is2 (before-commit start es first agrees faults clashes over) in omega (arith, most, no_more))
 
     -- it isn't committed
     pub uncommitted : (f : MfsFault) (why : Refusal) → RefusesInTree f why → (Stood c.faults d.faults → IsWanting f) → LeavesHead c.told d.told → ShownInTree X NoneIsBad {A = Unit {0}} (Err f) c d
@@ -331,7 +402,12 @@ module _ (X : List ℕ → List ℕ) (N : List ℕ → ℕ) (tree new : Mfs) (sp
         let shown = Shown-tree (Unit {0}) X NoneIsBad (IsBadInTree X N (Some tree.profile) tree.root.cid) (λ role bytes bad. absurd bad) f why c d is cause in
         record {
           puts = λ start. puts-by (Err why) start d (λ t es first plan is2 over.
-              inl (subst (IsLostBy start.told (blocks X N tree.profile (Dir es))) (sym (tree-wants f why is (wanting (stood-back start.faults c.faults d.faults (calm.faults ∙ first.cause.faults) over.calm.faults)))) tt));
+              inl (subst (IsLostBy start.told (needs_at_spot X N spot tree.profile es)) (sym (tree-wants f why is (wanting (stood-back start.faults c.faults d.faults (calm.faults ∙ first.cause.faults) over.calm.faults)))) tt));
+          no_other = λ t p es same plan is2 over last can.
+              no-other-trans X (next_blocks X N p (put_at_spot spot t es)) b.told c.told d.told
+              (placed-saves good no_other t p es same plan is2 over (leaves-agrees c.told d.told (blocks X N p (Dir es)) leaves last) can)
+              (no-other-leaves X (next_blocks X N p (put_at_spot spot t es)) c.told d.told leaves);
+          touches = λ start. within-commit start (λ l h. leaves-agrees c.told d.told l leaves h) (shown-rises X (IsBadInTree X N (Some tree.profile) tree.root.cid) (fault_behind why) c d shown).faults (shown-rises X (IsBadInTree X N (Some tree.profile) tree.root.cid) (fault_behind why) c d shown).clashes;
           text = tt;
           kinds = tree-kinds f why is;
           cause = shown-after X (IsBadInTree X N (Some tree.profile) tree.root.cid) (fault_behind why) b c d calm shown;
@@ -342,30 +418,28 @@ module _ (X : List ℕ → List ℕ) (N : List ℕ → ℕ) (tree new : Mfs) (sp
         }
 
     -- it is committed
-    pub committed : Commits new.profile new.root.cid c.told d.told → StaysCalm c d → PutsGiven X N at_spot given (Ok given.text) b d t0 t2
-    committed commits later = record {
+    pub committed : new.profile ≡ tree.profile → Commits new.profile new.root.cid c.told d.told → StaysCalm c d → PutsGiven X N at_spot given (Ok given.text) b d t0 t2
+    committed same commits later = record {
       puts = λ start. puts-by (Ok given.text) start d (λ t es first plan is2 over.
           let old = blocks X N tree.profile (Dir es) in
           let rises = calm-rises c d later in
-          let up-to : IsFolderOver X N tree.profile start c [] tree.root es = record {
-            plan = over.plan;
-            stays = record { first = over.stays.first; last = commits-agrees c.told d.told new.profile new.root.cid old commits over.stays.last };
-            calm = record {
-              faults = stood-front start.faults c.faults d.faults (calm.faults ∙ first.cause.faults) rises.faults over.calm.faults;
-              clashes = stood-front start.clashes c.clashes d.clashes (calm.clashes ∙ first.cause.clashes) rises.clashes over.calm.clashes;
-            };
-          } in
+          let up-to = before-commit start es first (λ l h. commits-agrees c.told d.told new.profile new.root.cid l commits h) rises.faults rises.clashes over in
           let v = ok-value (λ fs. StandsAfter X N start.told c.told old new tree.profile fs) (by_rule (allowed_move X N tree.profile (placed_at spot t es)))
-          (gives-ok {B = Unit {0}} (IsLossOf start.told old) (λ fs done. StandsAfter X N start.told c.told old new tree.profile fs) (allowed_move X N tree.profile (placed_at spot t es)) tt (gives (Ok tt) moves t es start first placed_by plan is2 up-to)) in
+          (gives-ok {B = Unit {0}} (IsLossOf start.told (needs_at_spot X N spot tree.profile es)) (λ fs done. StandsAfter X N start.told c.told old new tree.profile fs) (allowed_move X N tree.profile (placed_at spot t es)) tt (gives (Ok tt) moves (λ gs o. tt) t es start first placed_by plan is2 up-to)) in
           ok-for (λ next. NamesAfter X N start.told d.told old tree.profile next) (by_rule (allowed_move X N tree.profile (placed_at spot t es))) v.0 v.1
           (became X N start.told d.told tree.profile es [] c.told new v.0 commits v.2));
+      no_other = λ t p es same2 plan is2 over last can.
+          no-other-trans X (next_blocks X N p (put_at_spot spot t es)) b.told c.told d.told
+          (placed-saves good no_other t p es same2 plan is2 over (commits-agrees c.told d.told new.profile new.root.cid (blocks X N p (Dir es)) commits last) can)
+          (no-other-commits X (next_blocks X N p (put_at_spot spot t es)) new.profile new.root.cid c.told d.told commits);
+      touches = λ start. within-commit start (λ l h. commits-agrees c.told d.told new.profile new.root.cid l commits h) (calm-rises c d later).faults (calm-rises c d later).clashes;
       text = refl;
       kinds = tt;
       cause = StaysCalm-trans b c d calm later;
       good = KeepsGood-trans X b.told c.told d.told good kept;
       touched = λ blames. absurd blames;
       head = tt;
-      writes = (new.profile, new.root.cid, record { between = c.told; saves = saves; last = commits });
+      writes = (new.root.cid, record { between = c.told; saves = saves; last = subst (λ p. Commits p new.root.cid c.told d.told) same commits });
     }
 
 -- ---- what is read

@@ -1,5 +1,5 @@
 -- Talks with a peer: what they leave, and one for whose words there was no memory.
-use Rattle.std.proofs.Common.{◌≡◌, ℕ, List, [], ◌∷◌, refl, sym, ap, subst, ◌∙◌, arith, inl, append-nil, None, Some, Result, Err}
+use Rattle.std.proofs.Common.{◌≡◌, ℕ, List, [], ◌∷◌, refl, sym, ap, subst, ◌∙◌, arith, inl, inr, append-nil, None, Some, Result, Err}
 use Rattle.std.specs.Prelude.{fold}
 use Rattle.std.specs.List.{AllByRecursion}
 use Rattle.uf_cid.specs.declared.cid.Cid.{Cid}
@@ -53,7 +53,8 @@ module _ (X : List ℕ → List ℕ) (N : List ℕ → ℕ) (given : Status) (do
   pull-wants cid = subst (λ now. RunsPull X N cid given a now) (sym idle.same) (record {
     done = Err (pull.Store fault.Memory);
     tells = wants (Said a.errors b.errors) given done idle.refused t;
-    pulls = λ c bytes told left. record { kept = record { count = 0; few = omega arith; kept = inl told }; written = no-front _ a.held };
+    pulls = λ c bytes told left. inl (record { count = 0; few = omega arith; kept = told; written = no-front _ a.held });
+    last = λ c bytes told left. inr (no-front _ a.held);
     wants = λ c u bytes told left now. tt;
     some = ([], no-bytes a.held);
     cause = calm-memory a.store a.store (StaysCalm-refl a.store);

@@ -23,7 +23,7 @@ use Rattle.uf_command.specs.Commands.{HasInput, is_idle}
 use Rattle.uf_command.specs.Natures.{command_writes, needs_standing, only_reads, own_store, reads_tree_alone, uses_host, writes_host, OwnStore, NoStore, OfCarSections, OfTree, prints_after}
 use Rattle.uf_command.specs.Natures.{streams as flows}
 use Rattle.uf_command.specs.Kinds.{IsOf, OfCar, OfClash, OfHost, OfLongInput, OfMissing, OfPath, OfPins, OfReady, OfRule, OfUsage, fault_behind, may_close, refusal_kind}
-use Rattle.uf_command.specs.Natures.{AHead, kinds_of, may_end, may_give, nature}
+use Rattle.uf_command.specs.Natures.{kinds_of, may_end, may_give}
 use Rattle.uf_command.specs.Lines.{line_of, said}
 use Rattle.uf_top.specs.Reply.{Outside, World, in_world, outside_of, reply}
 use Rattle.uf_command.specs.Statuses.{ended, no_memory, plain_line, status_of}
@@ -664,11 +664,11 @@ module _ (a b : Around) where
           (by-pins command (Err no_memory) (detailed-pins command why a.store.told b.store.told t.0 s.pins) (subst (λ d. WritesAs X (command_writes command) d a.store.told b.store.told) (detailed-undone (status_of why) t.0) s.leaves.writes))
 
       -- what was added of what was read
-      pub kept-told : (command : Command) (done : Result (Unit {0}) Refusal) → Does X N command done a b → TellsEnd Says done given → KeptFor X N command given a.store.told b.store.told a.host.told a.left
-      kept-told command (Ok done) s t = subst (λ g. KeptFor X N command g a.store.told b.store.told a.host.told a.left) (sym t.0) s.kept
-      kept-told command (Err why) s (inl t) = subst (λ g. KeptFor X N command g a.store.told b.store.told a.host.told a.left) (sym t.0) s.kept
+      pub kept-told : (command : Command) (done : Result (Unit {0}) Refusal) → Does X N command done a b → TellsEnd Says done given → KeptFor X N command given a.store b.store a.host.told a.left
+      kept-told command (Ok done) s t = subst (λ g. KeptFor X N command g a.store b.store a.host.told a.left) (sym t.0) s.kept
+      kept-told command (Err why) s (inl t) = subst (λ g. KeptFor X N command g a.store b.store a.host.told a.left) (sym t.0) s.kept
       kept-told command (Err why) s (inr t) =
-          subst (λ g. KeptFor X N command g a.store.told b.store.told a.host.told a.left) (sym t.1) (kept-by X N command (status_of why) status.Memory a.store.told b.store.told a.host.told a.left (λ e. cc) (λ e. cc) s.kept)
+          subst (λ g. KeptFor X N command g a.store b.store a.host.told a.left) (sym t.1) (kept-by X N command (status_of why) status.Memory a.store b.store a.host.told a.left (λ e. cc) (λ e. cc) s.kept)
 
       -- ---- no block is called bad before one was touched
 
@@ -773,11 +773,11 @@ module _ (a b : Around) where
           → is_idle bytes es command ≡ true → b.store.told ≡ a.store.told
       idle-told command done s p es bytes stands input faults is = s.leaves.idle p es bytes stands (input, faults) is
 
-      pub unready-told : (command : Command) (done : Result (Unit {0}) Refusal) → Does X N command done a b → TellsEnd Says done given
-          → (or_none : Bool) → (nature command).head ≡ AHead or_none → given ≡ status.NotReady → LeavesAlone a b
-      unready-told command (Ok done) s t or_none needs is = absurd (let e : status.Ok ≡ status.NotReady = sym t.0 ∙ is in cc)
-      unready-told command (Err why) s (inl t) or_none needs is = s.unready or_none needs (sym t.0 ∙ is)
-      unready-told command (Err why) s (inr t) or_none needs is = absurd (let e : status.Memory ≡ status.NotReady = sym t.1 ∙ is in cc)
+      pub unready-told : (command : Command) (done : Result (Unit {0}) Refusal) → Does X N command done a b → may_give command given ≡ true → TellsEnd Says done given
+          → given ≡ status.NotReady → LeavesAlone a b
+      unready-told command (Ok done) s may t is = absurd (let e : status.Ok ≡ status.NotReady = sym t.0 ∙ is in cc)
+      unready-told command (Err why) s may (inl t) is = s.unready (subst (λ g. may_give command g ≡ true) is may) (sym t.0 ∙ is)
+      unready-told command (Err why) s may (inr t) is = absurd (let e : status.Memory ≡ status.NotReady = sym t.1 ∙ is in cc)
 
       pub unplaced-told : (command : Command) (done : Result (Unit {0}) Refusal) → Does X N command done a b → (p : Profile) (es : Entries) → NamesOver X N a.store.told p es → Stood a.store.faults b.store.faults → HasNoSpot command es → LeavesAlone a b
       unplaced-told command done s p es names stood none = s.unplaced p es names stood none

@@ -144,7 +144,7 @@ module _ (X : List ℕ → List ℕ) (N : List ℕ → ℕ) (n seed : ℕ) (s : 
         whole = λ s needs stands calm. absurd cc;
         touches = λ p es bytes rows named input heights calm. omega arith;
         touched = λ blames. absurd (of.blames blames);
-        unready = λ or_none e is. absurd cc;
+        unready = λ e is. absurd cc;
         unplaced = λ p es names stood none. absurd none;
         leaves = record { good = KeepsGood-refl X s.told; head = refl; writes = refl; idle = λ p es bytes stands calm is. absurd cc };
       }
@@ -198,7 +198,7 @@ module _ (X : List ℕ → List ℕ) (N : List ℕ → ℕ) (n seed : ℕ) (s : 
       whole = λ s needs stands calm. absurd cc;
       touches = λ p es bytes rows named input heights calm. omega arith;
       touched = λ blames. absurd blames;
-      unready = λ or_none e is. absurd cc;
+      unready = λ e is. absurd cc;
       unplaced = λ p es names stood none. absurd none;
       leaves = record { good = KeepsGood-refl X s.told; head = tt; writes = refl; idle = λ p es bytes stands calm is. absurd cc };
     }
@@ -231,7 +231,7 @@ module _ (X : List ℕ → List ℕ) (N : List ℕ → ℕ) (n seed : ℕ) (s : 
       whole = λ s needs stands calm. absurd cc;
       touches = λ p es bytes rows named input heights calm. omega arith;
       touched = λ blames. absurd blames;
-      unready = λ or_none e is. absurd cc;
+      unready = λ e is. absurd cc;
       unplaced = λ p es names stood none. absurd none;
       leaves = record { good = KeepsGood-refl X s.told; head = refl; writes = refl; idle = λ p es bytes stands calm is. absurd cc };
     }

@@ -42,13 +42,13 @@ module _ (X : List ℕ → List ℕ) (N : List ℕ → ℕ) (command : Command) 
     host = h.host;
     gets = detailed-gets a b status.Ok X N command a.store.told a.host.told b.host.told status.Clash refl h.gets;
     pins = detailed-pins command (refusal.Store (fault.Clash cid first second)) a.store.told b.store.told refl h.pins;
-    kept = kept-by X N command status.Clash status.Memory a.store.told b.store.told a.host.told a.left (λ e. cc) (λ e. cc) h.kept;
+    kept = kept-by X N command status.Clash status.Memory a.store b.store a.host.told a.left (λ e. cc) (λ e. cc) h.kept;
     writes = h.writes;
     cause = record { finds = h.cause.rises.finds; misses = h.cause.rises.misses; faults = h.cause.faults; clashes = h.cause.rises.clashes };
     whole = λ s needs stands calm. (λ e. cc, λ e. cc);
     touches = h.touches;
     touched = λ blames. absurd blames;
-    unready = λ or_none e is. absurd cc;
+    unready = λ e is. absurd cc;
     unplaced = h.unplaced;
     leaves = record { good = h.leaves.good; head = memory-head cid first second (prints_after command) a.store.told b.store.told h.leaves.head; writes = h.leaves.writes; idle = h.leaves.idle };
   }

@@ -40,11 +40,12 @@ use Rattle.uf_top.specs.Losing.{AnswersOver, command_needs}
 use Rattle.uf_top.specs.Naming.{NamesAfter}
 use Rattle.uf_top.specs.Around.{HostSide, SinkSide, around}
 use Rattle.uf_top.specs.Working.{Makes}
-use Rattle.uf_top.proofs.Added.{all_given, given_few}
+use Rattle.uf_top.proofs.Added.{all_given, given_few, left_are}
 use Rattle.uf_top.proofs.Classed.{opening-kinds, tree-counts}
 use Rattle.uf_top.proofs.Finding.{Finds, at-whole}
 use Rattle.uf_top.proofs.InTree.{not-opened, opened, opening-ready}
 use Rattle.uf_top.proofs.Losing.{lost-wants, names-same, opening-over}
+use Rattle.uf_top.proofs.Saved.{nothing-written, written-kept}
 use Rattle.uf_top.proofs.Shows.{Shown-opening, bad-of-none, opening-touched, shown-any, wants-shown}
 use Rattle.uf_top.proofs.Standings.{stands-same, tells-none}
 use Rattle.uf_top.proofs.Unready.{not-unready, taken-unready}
@@ -147,7 +148,7 @@ module _ (how : WriteHow) (path : Path) where
         kinds = tree-taken r mk.kinds;
         ready = ready-taken a.told piece r mk.ready;
         adds = not-long r l k mk.kinds;
-        kept = tt;
+        kept = written-kept X N how path.names a b piece l (left_are piece l k all.taken all.nothing_left) mk.kept;
         reads = subst (λ n. Counts (is_read r) i n) (sym (counts.still refl)) mk.reads;
         host = refl;
         rows = mk.rows;
@@ -155,7 +156,7 @@ module _ (how : WriteHow) (path : Path) where
         whole = mk.whole;
         touches = λ p es bytes rows named input heights calm. subst (λ (bs : List ℕ). IfSome (command_touches X N rows bs (WriteInput how path) p es) (λ most. t1 ≤ t0 + most)) (sym (given-is bytes input)) (mk.touches p es [] rows named (λ e. absurd cc) heights calm);
         touched = mk.touched;
-        unready = λ or_none e is. absurd (not-unready opened_kinds r refl refl opened_as is);
+        unready = λ e is. absurd (not-unready opened_kinds r refl refl opened_as is);
         unplaced = λ p es names stood none. absurd none;
         leaves = record {
           good = mk.leaves.good;
@@ -314,7 +315,7 @@ module _ (how : WriteHow) (path : Path) where
         kinds = taken-kinds why takes;
         ready = taken-ready why takes;
         adds = taken-long why takes;
-        kept = tt;
+        kept = nothing-written X N how path.names a m l told;
         reads = counts;
         host = refl;
         rows = tt;
@@ -322,7 +323,7 @@ module _ (how : WriteHow) (path : Path) where
         whole = λ s stands calm2. taken-finds why takes;
         touches = λ p es bytes rows named input heights calm2. omega (arith, opens_by);
         touched = λ blames. absurd (taken-blames why takes blames);
-        unready = λ or_none e is. absurd (taken-unready why l k takes is);
+        unready = λ e is. absurd (taken-unready why l k takes is);
         unplaced = λ p es names stood none. absurd none;
         leaves = record { good = KeepsGood-same X a.told m.told told; head = ap head_in told; writes = record { between = a.told; saves = SavesOnly-refl X a.told; last = Same told }; idle = λ p es bytes stands given same. told };
       }
@@ -339,7 +340,7 @@ module _ (how : WriteHow) (path : Path) where
         kinds = tree-taken (Err why) (opening-kinds f why is);
         ready = ready-taken a.told [] (Err why) (opening-ready a.told (Edits (Write how [])) path f why is head);
         adds = not-long (Err why) l l (opening-kinds f why is);
-        kept = tt;
+        kept = nothing-written X N how path.names a m l told;
         reads = tree-counts (Err why) i (opening-kinds f why is);
         host = refl;
         rows = tt;
@@ -348,7 +349,7 @@ module _ (how : WriteHow) (path : Path) where
             (not-opened X N s (tree_reply X N (Edits (Write how [])) path.names) f why m.told is (opens s stands calm.faults) (stands-same X N a.told m.told s told stands));
         touches = λ p es bytes rows named input heights calm. omega (arith, opens_by);
         touched = (opening-touched Mfs f why t0 t1 is up).risen;
-        unready = λ or_none e is. record { told = told; left = refl; reads = refl };
+        unready = λ e is. record { told = told; left = refl; reads = refl };
         unplaced = λ p es names stood none. absurd none;
         leaves = record { good = KeepsGood-same X a.told m.told told; head = ap head_in told; writes = record { between = a.told; saves = SavesOnly-refl X a.told; last = Same told }; idle = λ p es bytes stands given same. told };
       }

@@ -1,8 +1,8 @@
 -- What `check` did, which reads a light proof from the input and needs no store.
-use Rattle.std.specs.Prelude.{◌≡◌, ◌⊎◌, ◌≤◌, ℕ, List, length, Bool, IfErr}
+use Rattle.std.specs.Prelude.{◌≡◌, ◌⊎◌, ◌≤◌, ℕ, List, length, Bool, true, IfErr, IfOk}
 use Rattle.std.specs.declared.option.Option.TheVariants.{Some}
 use Rattle.std.specs.declared.result.Result.{Result}
-use Rattle.uf_car.specs.Exporting.{WritesSome}
+use Rattle.uf_car.specs.Exporting.{WritesAll, WritesSome}
 use Rattle.uf_car.specs.Reading.{car_read}
 use Rattle.uf_cid.specs.declared.cid.Cid.{Cid}
 use Rattle.uf_edge.specs.Counts.{Counts, Stood}
@@ -11,7 +11,8 @@ use Rattle.uf_edge.specs.Streams as streams
 use Rattle.uf_light.specs.Accepting.{IsProof}
 use Rattle.uf_light.specs.Answers.{ClashesWithPlan, CountsSink, IsOwnFault, OpensAs, file_needs, is_light_read}
 use Rattle.uf_light.specs.Answers.{is_light_sink, opened}
-use Rattle.uf_light.specs.Light.{HasHeight, light_says, said_bytes}
+use Rattle.uf_light.specs.Below.{IsAboveNames}
+use Rattle.uf_light.specs.Light.{HasHeight, absent_text, light_says, said_bytes}
 use Rattle.uf_light.specs.Sections.{AnswersTree, IsOkOrMemory, ShownBySections}
 use Rattle.uf_light.specs.Sending.{ComesFirst}
 use Rattle.uf_light.specs.Standing.{IsTreeAt}
@@ -54,6 +55,12 @@ module _ (X : List ℕ → List ℕ) (N : List ℕ → ℕ) (absent : Bool) (roo
     pub first : (bytes : List ℕ) (p : Profile) (t : Tree) (height : ℕ) → left ≡ Some bytes → IsTreeAt X N p root t
         → HasHeight p height (at 0 names t)
         → ClashesWithPlan X (blocks X N p t) (car_read X most_of_proof bytes).sections ⊎ ComesFirst answer held held_now
+    -- whatever the root is of: with names below it, it is that of a directory, and so are its sections, unless two
+    -- blocks clash
+    pub root_section : (bytes : List ℕ) → left ≡ Some bytes
+        → IfOk answer (λ n. IsAboveNames X root names (car_read X most_of_proof bytes).sections)
+    -- with `absent` the line was written and nothing else
+    pub line : absent ≡ true → IfOk answer (λ n. WritesAll (absent_text names) n held held_now)
     -- whatever the CAR has: a lost block, a bad one and two that clash are shown by its sections, and no store fails
     pub shown : (bytes : List ℕ) → left ≡ Some bytes
         → ShownBySections X N root (car_read X most_of_proof bytes).sections answer

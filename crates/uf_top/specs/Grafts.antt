@@ -1,5 +1,5 @@
 -- Copies from DAGs of others into the tree that the Head names.
-use Rattle.std.specs.Prelude.{◌≡◌, ◌⊎◌, ℕ, ◌≤◌, ◌<◌, List, [], Bool, false, IfErr, OnOk}
+use Rattle.std.specs.Prelude.{◌≡◌, ◌⊎◌, ℕ, ◌≤◌, ◌<◌, List, [], ◌∷◌, Bool, false, IfErr, IsErr, OnOk}
 use Rattle.std.specs.declared.result.Result.{Result}
 use Rattle.std.specs.declared.result.Result.TheVariants.{Ok, Err}
 use Rattle.uf_adopt.specs.Adopting.{IsBuilt}
@@ -7,6 +7,7 @@ use Rattle.uf_adopt.specs.Faults.{IsStoreFailing}
 use Rattle.uf_adopt.specs.declared.fault.AdoptFault.{AdoptFault}
 use Rattle.uf_adopt.specs.declared.fault.AdoptFault.TheVariants as adopt
 use Rattle.uf_cid.specs.Blocks.{Held, Lookup}
+use Rattle.uf_edge.specs.Counts.{Stood}
 use Rattle.uf_edge.specs.Streams as streams
 use Rattle.uf_mfs.specs.Bad.{IsBadInTree}
 use Rattle.uf_mfs.specs.Standing.{StandsAfter, StandsOver, head_in}
@@ -15,11 +16,11 @@ use Rattle.uf_mfs.specs.Touches.{IsBlaming}
 use Rattle.uf_mfs.specs.declared.mfs.Mfs.{Mfs}
 use Rattle.uf_path.specs.declared.path.DagPath.{DagPath}
 use Rattle.uf_path.specs.declared.path.Path.{Path}
-use Rattle.uf_plain.specs.Moves.{allowed_move, placed_at}
+use Rattle.uf_plain.specs.Moves.{allowed_move, placed_at, spotted}
 use Rattle.uf_plain.specs.declared.rule.Rule.TheVariants as rule
 use Rattle.uf_plain.specs.declared.spot.Spot.{Spot}
 use Rattle.uf_command.specs.Natures.{MovesHead}
-use Rattle.uf_command.specs.Dags.{dag_refusal}
+use Rattle.uf_command.specs.Dags.{adopted_name, dag_refusal, tree_at}
 use Rattle.uf_command.specs.Kinds.{adopt_kinds, IsOf, OfReady, RefusalKind, may_meet, refusal_fault}
 use Rattle.uf_top.specs.Reply.{adopt_reply, by_rule, with_plan}
 use Rattle.uf_command.specs.declared.types.Refusal.{Refusal}
@@ -27,7 +28,7 @@ use Rattle.uf_command.specs.declared.types.Refusal.TheVariants as refusal
 use Rattle.uf_store.specs.Calls.{Calm}
 use Rattle.uf_store.specs.Contents.{Told}
 use Rattle.uf_store.specs.Faults.{Shown}
-use Rattle.uf_store.specs.Keeping.{KeepsGood}
+use Rattle.uf_store.specs.Keeping.{Agrees, KeepsGood}
 use Rattle.uf_store.specs.Lost.{IsLossOf}
 use Rattle.uf_store.specs.Seen.{Seen}
 use Rattle.uf_tree.specs.Tree.{Dir, Entries, Tree}
@@ -36,9 +37,11 @@ use Rattle.uf_tree.specs.declared.nodes.Entry.{Entry}
 use Rattle.uf_tree.specs.declared.profile.Profile.{Profile}
 use Rattle.uf_varint.specs.Fields.{◌>>=◌}
 use Rattle.std.specs.declared.option.Option.TheVariants.{Some}
-use Rattle.uf_top.specs.Losing.{DoesOver}
+use Rattle.uf_top.specs.Losing.{DoesOver, placing_needs}
 use Rattle.uf_top.specs.Naming.{StaysNamed, TellsBlocks}
-use Rattle.uf_top.specs.Shapes.{WritesAs, is_ok}
+use Rattle.uf_top.specs.Around.{CountsCanRise}
+use Rattle.uf_top.specs.Saving.{SavesNoOther, adopted_blocks, put_blocks}
+use Rattle.uf_top.specs.Shapes.{WritesInTree, is_ok}
 
 -- there is a value, and this holds of it
 abbrev pub IsOkFor : {A : Type 0} → (A → Type 0) → Result A Refusal → Type 0
@@ -90,13 +93,32 @@ module _ (X : List ℕ → List ℕ) (N : List ℕ → ℕ) where
   BuildsPlanned p now t result =
       FollowsOr IsFailingRefusal (λ planned e. IsBuilt X N p now planned e) (by_rule (with_plan X N p t)) result
 
-  -- the tree in memory becomes the next one, or that is refused, or one of its blocks is lost
-  abbrev pub PutsTree : (was is : Mfs) → (Profile → Entries → Result Entries Refusal) → Result (Unit {0}) Refusal
-      → Seen → Seen → Type 0
-  PutsTree was is next result before now = (p : Profile) (es : Entries) → was.profile ≡ p
+  -- the tree in memory becomes the next one, or that is refused, or one of its blocks that this needs is lost
+  abbrev pub PutsTree : (was is : Mfs) → (Profile → Entries → List Held)
+      → (Profile → Entries → Result Entries Refusal) → Result (Unit {0}) Refusal → Seen → Seen → Type 0
+  PutsTree was is needs next result before now = (p : Profile) (es : Entries) → was.profile ≡ p
       → IsFolderOver X N p before now [] was.root es
-      → FollowsOr (IsLostBy before.told (blocks X N p (Dir es)))
+      → FollowsOr (IsLostBy before.told (needs p es))
       (λ fs done. StandsAfter X N before.told now.told (blocks X N p (Dir es)) is p fs) (next p es) result
+
+  -- where the tree has no spot for it, it is refused, and nothing of what is told changes
+  abbrev pub LeavesUnplaced : Mfs → DagPath → Path → Result (Unit {0}) Refusal → Seen → Seen → Type 0
+  LeavesUnplaced tree source dest done before now = (p : Profile) (es : Entries) → StandsOver X N before.told tree p es
+      → Stood before.faults now.faults → IsErr (spotted dest (Some (adopted_name source)) es)
+      → IsErr done × (now.told ≡ before.told)
+
+  -- a tree that is put at this spot saves its own blocks, and those of the tree that this gives, and no others
+  abbrev pub SavesPut : Mfs → Spot → Tree → Seen → Seen → Type 0
+  SavesPut tree spot t before now = (p : Profile) (es : Entries) → StandsOver X N before.told tree p es
+      → Agrees now.told (blocks X N p (Dir es)) → CountsCanRise before
+      → SavesNoOther X (put_blocks X N (Ok spot) (t ∷ []) p es) before.told now.told
+
+  -- the same of what is at a path in a DAG, put where a path of the tree leads
+  abbrev pub SavesAdopted : Mfs → DagPath → Path → Seen → Seen → Type 0
+  SavesAdopted tree source dest before now = (held : Lookup) (p : Profile) (es : Entries)
+      → TellsBlocks before.told held → StandsOver X N before.told tree p es
+      → Agrees now.told (blocks X N p (Dir es)) → CountsCanRise before
+      → SavesNoOther X (adopted_blocks X N (tree_at held source) source dest p es) before.told now.told
 
   -- how it was copied into an opened tree, which was committed
   pub record GraftsIn (tree : Mfs) (source : DagPath) (dest : Path) (done : Result (Unit {0}) Refusal)
@@ -104,11 +126,13 @@ module _ (X : List ℕ → List ℕ) (N : List ℕ → ℕ) where
     pub lost : (p : Profile) (es : Entries) (held : Lookup) (given : streams.Told)
         → StandsOver X N before.told tree p es → StaysNamed X N before.told now.told p es
         → TellsBlocks before.told held → Calm before now
-        → DoesOver X N before.told now.told p es (blocks X N p (Dir es)) (adopt_reply X N held source dest p es) done
-        given given
+        → DoesOver X N before.told now.told p es (placing_needs X N dest (Some (adopted_name source)) p es)
+        (adopt_reply X N held source dest p es) done given given
+    pub unplaced : LeavesUnplaced tree source dest done before now
+    pub no_other : SavesAdopted tree source dest before now
     pub kinds : IsOf graft_kinds done
     pub cause : Shown X (IsBadInTree X N (Some tree.profile) tree.root.cid) (refusal_fault done) before now
     pub good : KeepsGood X before.told now.told
     pub touched : IsBlaming (refusal_fault done) → was < is
     pub head : IfErr done (λ why. head_in now.told ≡ head_in before.told)
-    pub writes : WritesAs X MovesHead (is_ok done) before.told now.told
+    pub writes : WritesInTree X tree.profile MovesHead (is_ok done) before.told now.told

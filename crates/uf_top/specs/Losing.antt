@@ -1,10 +1,16 @@
 -- What a command answers over a tree that the Head names and of whose blocks some may be lost.
 use Rattle.std.specs.Prelude.{◌≡◌, ◌⊎◌, ℕ, List, [], ◌++◌, length, true, false}
+use Rattle.std.specs.declared.option.Option.{Option}
+use Rattle.std.specs.declared.option.Option.TheVariants.{None, Some}
 use Rattle.std.specs.declared.result.Result.{Result}
 use Rattle.std.specs.declared.result.Result.TheVariants.{Ok, Err}
 use Rattle.uf_cid.specs.Blocks.{Held}
 use Rattle.uf_edge.specs.Streams as streams
+use Rattle.uf_light.specs.Needs.{proof_needs}
+use Rattle.uf_host.specs.Paths.{first_row, trimmed}
+use Rattle.uf_mfs.specs.Missing.{put_names, spot_needs}
 use Rattle.uf_mfs.specs.Reading.{range_needs, rows_with}
+use Rattle.uf_path.specs.declared.path.Path.{Path}
 use Rattle.uf_plain.specs.Edits.{at}
 use Rattle.uf_plain.specs.Needs.{needs_at, own_needs, root_of, rows_need}
 use Rattle.uf_plain.specs.declared.rule.Refused.{Refused}
@@ -17,6 +23,7 @@ use Rattle.uf_tree.specs.declared.profile.Profile.{Profile}
 use Rattle.uf_command.specs.Lines.{line_of, said}
 use Rattle.uf_top.specs.Around.{Around, Said}
 use Rattle.uf_top.specs.Reply.{Reply}
+use Rattle.uf_command.specs.Dags.{adopted_name}
 use Rattle.uf_command.specs.Statuses.{ended, status_of}
 use Rattle.uf_command.specs.declared.status.Status.{Status}
 use Rattle.uf_command.specs.declared.types.Ask.{Ask}
@@ -35,7 +42,17 @@ rows_found rows (Ok (File m bytes)) = rows_with rows m (length bytes)
 rows_found rows (Ok (Dir es)) = 0
 rows_found rows (Err why) = 0
 
+-- the name of what is added: that of the last row of what the host has at a path; the input has none
+abbrev pub row_name : Option (List ℕ) → Option (List ℕ)
+row_name None = None
+row_name (Some path) = Some (first_row (trimmed path))
+
 module _ (X : List ℕ → List ℕ) (N : List ℕ → ℕ) where
+  -- the blocks that a put of something of this name where a destination leads needs: the root block, the own blocks of
+  -- each directory on the names of its spot, and the root block of what each of them leads to
+  abbrev pub placing_needs : Path → Option (List ℕ) → Profile → Entries → List Held
+  placing_needs dest name p es = spot_needs X N p (put_names dest name) (Dir es)
+
   -- the blocks that what is asked at these names needs of a tree
   abbrev pub ask_needs : Ask → List (List ℕ) → Profile → Entries → List Held
   ask_needs (Ls false) names p es = needs_at X N p (own_needs X N p) names (Dir es)
@@ -48,16 +65,18 @@ module _ (X : List ℕ → List ℕ) (N : List ℕ → ℕ) where
   part_needs rows offset count names p es =
       needs_at X N p (range_needs X p (rows_found rows (at 0 names (Dir es))) offset count) names (Dir es)
 
-  -- the blocks that a command needs of the tree that the Head names: those of what is asked, and the root block
+  -- the blocks that a command needs of the tree that the Head names: those of what is asked, and the root block. What
+  -- is missing of a DAG that is copied is in the reply
   abbrev pub command_needs : (ℕ → ℕ) → Command → Profile → Entries → List Held
-  command_needs rows (Add (adding.InputTo dest)) p es = root_of X N p (Dir es) ++ blocks X N p (Dir es)
-  command_needs rows (Add (adding.HostTo recursive path dest)) p es = root_of X N p (Dir es) ++ blocks X N p (Dir es)
+  command_needs rows (Add (adding.InputTo dest)) p es = placing_needs dest None p es
+  command_needs rows (Add (adding.HostTo recursive path dest)) p es = placing_needs dest (row_name (Some path)) p es
   command_needs rows (WriteInput how path) p es = root_of X N p (Dir es) ++ blocks X N p (Dir es)
   command_needs rows (At ask path) p es = root_of X N p (Dir es) ++ ask_needs ask path.names p es
   command_needs rows (Read offset count path) p es =
       root_of X N p (Dir es) ++ part_needs rows offset count path.names p es
-  command_needs rows (Adopt source dest) p es = root_of X N p (Dir es) ++ blocks X N p (Dir es)
-  command_needs rows (Prove absent path) p es = root_of X N p (Dir es) ++ blocks X N p (Dir es)
+  command_needs rows (Adopt source dest) p es = placing_needs dest (Some (adopted_name source)) p es
+  command_needs rows (Prove absent path) p es = root_of X N p (Dir es)
+      ++ proof_needs X N p (rows_found rows (at 0 path.names (Dir es))) absent path.names (Dir es)
   command_needs rows other p es = []
 
   module _ (before now : Told) where

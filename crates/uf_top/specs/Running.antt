@@ -7,7 +7,7 @@ use Rattle.uf_edge.specs.Counts.{Stood}
 use Rattle.uf_mfs.specs.Reading.{AreHeights}
 use Rattle.uf_mfs.specs.Standing.{NamesOver, TellsAs, head_in}
 use Rattle.uf_command.specs.Commands.{HasInput, IsOfWords, is_idle}
-use Rattle.uf_command.specs.Natures.{AHead, command_writes, may_give, nature, only_reads, prints_after}
+use Rattle.uf_command.specs.Natures.{command_writes, may_give, only_reads, prints_after}
 use Rattle.uf_command.specs.Natures.{reads_tree_alone, streams as flows, writes_host}
 use Rattle.uf_command.specs.declared.status.Status.{Status}
 use Rattle.uf_command.specs.declared.status.Status.TheVariants as status
@@ -64,12 +64,13 @@ module _ (X : List ℕ → List ℕ) (N : List ℕ → ℕ) where
     pub synced : given ≡ status.Ok → IsSyncedFor command now.store.told
 
   -- what a command leaves. What is good stays, only a command that is done moves the Head, or an `add --to-files` of
-  -- which only the output failed, and some commands leave all as it was; so does an edit that has nothing to do. What
-  -- needs a Head and isn't ready has written nothing and read nothing of the input, and so it is where the tree that
-  -- the Head names has no spot for what `add --to-files` adds. Of the host `get` alone changes anything, also where it
-  -- is refused or stopped. `pin add` and `pin rm` that are done move the note of pins, and whatever else leaves it.
-  -- `dag import` adds first sections of its CAR, `add` without `--to-files` blocks of what it reads, and each no others,
-  -- also where it is refused
+  -- which only the output failed, and some commands leave all as it was; so does an edit that has nothing to do. Where
+  -- the store isn't ready for it, for its Head or its note of pins, a command has written nothing and read nothing of
+  -- the input. So it is where the tree that the Head names has no spot for what `add --to-files` adds, or `files cp`
+  -- copies from a DAG. Of the host `get` alone changes anything, also where it is refused or stopped. `pin add` and
+  -- `pin rm` that are done move the note of pins, and whatever else leaves it. `dag import` adds first sections of its
+  -- CAR, `add` blocks of what it reads, and a command that changes the tree blocks of the tree that it gives, of those
+  -- that it makes in between and of what it puts there, and each no others, also where it is refused
   pub record LeavesRight (command : Command) (given : Status) (before now : Around) : Type 0 where
     pub writes : WritesAs X (command_writes command) (is_done given) before.store.told now.store.told
     pub good : KeepsGood X before.store.told now.store.told
@@ -79,14 +80,13 @@ module _ (X : List ℕ → List ℕ) (N : List ℕ → ℕ) where
         → HasInput (Ok command) before.left bytes before.reads now.reads
         → Stood before.store.faults now.store.faults → is_idle bytes es command ≡ true
         → now.store.told ≡ before.store.told
-    pub unready : (or_none : Bool) → (nature command).head ≡ AHead or_none → given ≡ status.NotReady
-        → LeavesAlone before now
+    pub unready : given ≡ status.NotReady → LeavesAlone before now
     pub unplaced : (p : Profile) (es : Entries) → NamesOver X N before.store.told p es
         → Stood before.store.faults now.store.faults → HasNoSpot command es → LeavesAlone before now
     pub host : writes_host command ≡ false → now.host.told ≡ before.host.told
     pub gets : GetsFor command given before.store.told before.host.told now.host.told
     pub pins : PinsAfter (Ok command) given before.store.told now.store.told
-    pub kept : KeptFor X N command given before.store.told now.store.told before.host.told before.left
+    pub kept : KeptFor X N command given before.store now.store before.host.told before.left
 
   -- the commands that work on a tree keep within their touches, also where they are refused, and no block is called
   -- bad before one was touched

@@ -13,6 +13,7 @@ use Rattle.uf_cid.specs.declared.cid.Cid.{Cid}
 use Rattle.uf_tree.specs.declared.profile.Profile.{Profile}
 use Rattle.uf_command.specs.declared.status.Status.{Status}
 use Rattle.uf_command.specs.declared.status.Status.TheVariants as status
+use Rattle.uf_top.specs.Causes.{IsProfileOf}
 
 -- blocks were saved and made durable
 abbrev pub SyncsAfter : (List ℕ → List ℕ) → Told → Told → Type 0
@@ -22,21 +23,34 @@ SyncsAfter hash before now = SavesThen hash (λ between now. now ≡ changed wit
 abbrev pub HeadAfter : (List ℕ → List ℕ) → Told → Told → Type 0
 HeadAfter hash before now = (p : Profile) × (root : Cid) × SavesThen hash (Commits p root) before now
 
--- what was written, by whether the command was done: a first Head only where there was none; one that is refused has
--- written no Head, and no note of pins
+-- the same by this profile
+abbrev pub HeadBy : (List ℕ → List ℕ) → Profile → Told → Told → Type 0
+HeadBy hash p before now = (root : Cid) × SavesThen hash (Commits p root) before now
+
+-- the same by the profile of the Head before
+abbrev pub HeadMoved : (List ℕ → List ℕ) → Told → Told → Type 0
+HeadMoved hash before now = (p : Profile) × IsProfileOf before p × HeadBy hash p before now
+
+-- what was written, by whether the command was done: a first Head only where there was none, and over a Head one of the
+-- same profile; one that is refused has written no Head, and no note of pins
 abbrev pub WritesAs : (List ℕ → List ℕ) → WriteShape → Bool → Told → Told → Type 0
 WritesAs hash NoWrites done before now = now ≡ before
 WritesAs hash SyncsBlocks true before now = SyncsAfter hash before now
 WritesAs hash SyncsBlocks false before now = SavesThen hash LeavesHead before now
 WritesAs hash MakesHead true before now = (head_in before ≡ None) × HeadAfter hash before now
 WritesAs hash MakesHead false before now = SavesThen hash LeavesHead before now
-WritesAs hash MovesHead true before now = HeadAfter hash before now
+WritesAs hash MovesHead true before now = HeadMoved hash before now
 WritesAs hash MovesHead false before now = SavesThen hash LeavesHead before now
 WritesAs hash SyncsPins true before now =
     (now ≡ changed with_sync before) ⊎ NotesPinsIn (changed with_sync before) now
 WritesAs hash SyncsPins false before now = (now ≡ before) ⊎ (now ≡ changed with_sync before)
 WritesAs hash NotesPins true before now = NotesPinsIn before now
 WritesAs hash NotesPins false before now = now ≡ before
+
+-- the same in an opened tree of this profile
+abbrev pub WritesInTree : (List ℕ → List ℕ) → Profile → WriteShape → Bool → Told → Told → Type 0
+WritesInTree hash p MovesHead true before now = HeadBy hash p before now
+WritesInTree hash p shape done before now = WritesAs hash shape done before now
 
 -- the command was done
 abbrev pub is_ok : {A B : Type 0} → Result A B → Bool

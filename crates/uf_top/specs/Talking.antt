@@ -6,7 +6,7 @@ use Rattle.uf_cid.specs.declared.cid.Cid.{Cid}
 use Rattle.uf_edge.specs.Counts.{Counts}
 use Rattle.uf_mfs.specs.Standing.{TellsAs, head_in}
 use Rattle.uf_pull.specs.Due.{due}
-use Rattle.uf_pull.specs.Pulling.{IsPulling, IsSaveOrSync, Pulls}
+use Rattle.uf_pull.specs.Pulling.{IsDoneLast, IsPulling, IsSaveOrSync, Pulls}
 use Rattle.uf_pull.specs.Reading.{is_pull_read, is_pull_sink, pull_fault}
 use Rattle.uf_pull.specs.Serving.{IsServing, ServesLines, WritesBytes, is_serve_read, is_serve_sink, serve_fault}
 use Rattle.uf_pull.specs.Wants.{asked_in}
@@ -32,6 +32,9 @@ module _ (X : List ℕ → List ℕ) (N : List ℕ → ℕ) where
     -- prefix
     pub pulls : (t : Contents) (bytes : List ℕ) → before.store.told ≡ Some t → before.left ≡ Some bytes
         → Pulls (due X most_pulled cid (held_at t) bytes) bytes done t now.store.told before.held now.held now.left
+    -- however it ended, no byte of `done` is written unless all blocks were kept and then synced
+    pub last : (t : Contents) (bytes : List ℕ) → before.store.told ≡ Some t → before.left ≡ Some bytes
+        → IsDoneLast (due X most_pulled cid (held_at t) bytes) t now.store.told before.held now.held
     -- after Ok all below the CID is held, and exactly what of it wasn't held was asked for
     pub wants : (t u : Contents) (bytes : List ℕ) → before.store.told ≡ Some t → before.left ≡ Some bytes
         → now.store.told ≡ Some u → OnOk done (AsksForUnheld most_pulled cid (held_at t) (held_at u)

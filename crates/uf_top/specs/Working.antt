@@ -24,7 +24,7 @@ use Rattle.uf_command.specs.declared.types.Command.{Command}
 use Rattle.uf_command.specs.declared.types.Command.TheVariants.{At}
 use Rattle.uf_command.specs.declared.types.Refusal.{Refusal}
 use Rattle.uf_command.specs.Commands.{HasInput, is_idle, of_command}
-use Rattle.uf_command.specs.Natures.{AHead, ask_writes, command_writes, generates, kinds_of, nature, prints_after}
+use Rattle.uf_command.specs.Natures.{ask_writes, command_writes, generates, kinds_of, may_give, prints_after}
 use Rattle.uf_command.specs.Natures.{reads_input, reads_tree_alone, streams as flows, touches_nothing, uses_host}
 use Rattle.uf_command.specs.Natures.{writes_host}
 use Rattle.uf_command.specs.Telling.{Prints}
@@ -46,7 +46,8 @@ use Rattle.uf_top.specs.Losing.{AnswersOver, DoesOver, ask_needs, command_needs}
 use Rattle.uf_top.specs.Pins.{PinsFor}
 use Rattle.uf_top.specs.Naming.{FindsOver, FindsWorld, StandsNamed, StaysNamed, TellsBlocks}
 use Rattle.uf_top.specs.Placing.{HasNoSpot}
-use Rattle.uf_top.specs.Shapes.{WritesAs, is_done, is_ok}
+use Rattle.uf_top.specs.Saving.{SavesNoOther, asked_blocks}
+use Rattle.uf_top.specs.Shapes.{WritesAs, WritesInTree, is_done, is_ok}
 
 module _ (X : List ℕ → List ℕ) (N : List ℕ → ℕ) where
   -- what a command leaves before anything is printed: good blocks, the Head where it is refused or prints what it
@@ -77,7 +78,7 @@ module _ (X : List ℕ → List ℕ) (N : List ℕ → ℕ) where
     pub reads : Counts (is_input_read command done) before.reads now.reads
     pub host : UsesHost (uses_host command) (is_read done) before.host now.host
     pub rows : IfOk done (λ text. IsHostedText X N before.store.told now.store.told before.host.told command text)
-    pub kept : KeptFor X N command (ended done) before.store.told now.store.told before.host.told before.left
+    pub kept : KeptFor X N command (ended done) before.store now.store before.host.told before.left
     pub cause : Shown X (IsBadIn X N before.store.told now.store.told) (refusal_fault done) before.store now.store
     pub whole : (standing : Standing) → TellsAs X N before.store.told standing → Calm before.store now.store
         → FindsAll (ended done)
@@ -87,8 +88,7 @@ module _ (X : List ℕ → List ℕ) (N : List ℕ → ℕ) where
         → Calm before.store now.store
         → IfSome (command_touches X N rows bytes command p es) (λ most. now.touches ≤ before.touches + most)
     pub touched : IsBlaming (refusal_fault done) → before.touches < now.touches
-    pub unready : (or_none : Bool) → (nature command).head ≡ AHead or_none → ended done ≡ status.NotReady
-        → LeavesAlone before now
+    pub unready : may_give command status.NotReady ≡ true → ended done ≡ status.NotReady → LeavesAlone before now
     pub unplaced : (p : Profile) (es : Entries) → NamesOver X N before.store.told p es
         → Stood before.store.faults now.store.faults → HasNoSpot command es → LeavesAlone before now
     pub leaves : MakesLeaving command done before.store.told now.store.told
@@ -141,7 +141,7 @@ module _ (X : List ℕ → List ℕ) (N : List ℕ → ℕ) where
     pub host : TakesHost (writes_host command) (uses_host command) (is_read done) (is_write done) before.host now.host
     pub gets : GetsFor command (ended done) before.store.told before.host.told now.host.told
     pub pins : PinsFor command done before.store.told now.store.told
-    pub kept : KeptFor X N command (ended done) before.store.told now.store.told before.host.told before.left
+    pub kept : KeptFor X N command (ended done) before.store now.store before.host.told before.left
     pub writes : RisesFor (is_output_write command done) before.writes now.writes
     pub cause : Shown X (IsBadIn X N before.store.told now.store.told) (refusal_fault done) before.store now.store
     pub whole : (standing : Standing) → reads_tree_alone command ≡ true → TellsAs X N before.store.told standing
@@ -152,8 +152,7 @@ module _ (X : List ℕ → List ℕ) (N : List ℕ → ℕ) where
         → Calm before.store now.store
         → IfSome (command_touches X N rows bytes command p es) (λ most. now.touches ≤ before.touches + most)
     pub touched : IsBlaming (refusal_fault done) → before.touches < now.touches
-    pub unready : (or_none : Bool) → (nature command).head ≡ AHead or_none → ended done ≡ status.NotReady
-        → LeavesAlone before now
+    pub unready : may_give command status.NotReady ≡ true → ended done ≡ status.NotReady → LeavesAlone before now
     pub unplaced : (p : Profile) (es : Entries) → NamesOver X N before.store.told p es
         → Stood before.store.faults now.store.faults → HasNoSpot command es → LeavesAlone before now
     pub leaves : DoesLeave command done before.store.told now.store.told
@@ -189,7 +188,10 @@ module _ (X : List ℕ → List ℕ) (N : List ℕ → ℕ) where
     pub touched : CountsUp (refusal_fault done) was is
     pub good : KeepsGood X before.told now.told
     pub head : HeadStays done false before.told now.told
-    pub writes : WritesAs X (ask_writes ask) (is_ok done) before.told now.told
+    pub writes : WritesInTree X tree.profile (ask_writes ask) (is_ok done) before.told now.told
+    pub kept : (p : Profile) (es : Entries) → StandsOver X N before.told tree p es
+        → StaysNamed X N before.told now.told p es → CountsCanRise before
+        → SavesNoOther X (asked_blocks X N ask path.names p es) before.told now.told
     pub idle : (p : Profile) (es : Entries) → StandsOver X N before.told tree p es
         → NamesOver X N before.told p es → Stood before.faults now.faults
         → is_idle [] es (At ask path) ≡ true → now.told ≡ before.told

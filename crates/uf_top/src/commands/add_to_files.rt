@@ -2,7 +2,7 @@
 ghost use Rattle.std.specs.Prelude.{◌≡◌, ◌<◌, ℕ, List, IsTrue, option_copied};
 ghost use Rattle.uf_edge.specs.Counts.{Counts};
 ghost use Rattle.uf_mfs.specs.Standing.{IsMfs};
-ghost use Rattle.uf_command.specs.Statuses.{no_memory};
+ghost use Rattle.uf_command.specs.Statuses.{ended, no_memory};
 ghost use Rattle.uf_command.specs.declared.types.Command.TheVariants as commands;
 ghost use Rattle.uf_command.specs.declared.types.Adding.TheVariants as adding;
 ghost use Rattle.uf_store.specs.Calls.{OnlySaves};
@@ -14,6 +14,8 @@ ghost use Rattle.uf_top.specs.Lent.{OverHost, OverInput, side_at};
 ghost use Rattle.uf_top.specs.Causes.{is_read};
 ghost use Rattle.uf_top.specs.Grafts.{FollowsOr};
 ghost use Rattle.uf_top.specs.HostTexts.{host_text};
+ghost use Rattle.uf_top.specs.Hosted.{AddsTrees};
+ghost use Rattle.uf_top.specs.Intake.{AddsFile};
 ghost use Rattle.uf_top.specs.Placing.{FindsSpot, GivesFor, PutsGiven};
 ghost use Rattle.uf_top.specs.Placing.{SaysHost, SaysInput};
 ghost use Rattle.uf_top.specs.Reply.{added_name as name_added, input_row};
@@ -141,6 +143,8 @@ fn read_input<S: Store, I: Source>(
     requires { IsTrue (is_profile profile) }
     ensures gives { (N : List ℕ → ℕ) → GivesFor S.X.block32 N profile (S.seen store.new).told
         (SaysInput profile (I.left input.old)) (input_row S.X.block32 N profile) result }
+    ensures no_other { AddsFile S.X.block32 profile (S.seen store.old).told (S.seen store.new).told
+        (I.left input.old) }
     ensures counts { Counts (is_read result) (I.faults input.old) (I.faults input.new) }
     ensures saves { OnlySaves S.X.block32 NoneIsBad (refusal_fault result) (S.seen store.old) (S.seen store.new) }
 {
@@ -160,6 +164,8 @@ fn read_host<S: Store, N: NameHash, W: Host>(
     ensures gives { GivesFor S.X.block32 N.name64 profile (S.seen store.new).told
         (SaysHost S.X.block32 N.name64 profile (W.tree host.old) recursive path.now)
         (host_text S.X.block32 N.name64 profile path.now) result }
+    ensures no_other { AddsTrees S.X.block32 N.name64 (ended result) profile (S.seen store.old).told
+        (S.seen store.new).told (W.tree host.old) recursive path.now }
     ensures host { OnlyReadsHost (is_read result)
         (side_at W.Host host.old)
         (side_at W.Host host.new) }

@@ -5,20 +5,24 @@ ghost use Rattle.uf_cid.specs.Blocks.{Lookup};
 ghost use Rattle.uf_edge.specs.Counts.{Stood};
 ghost use Rattle.uf_lenient.specs.Reading.{denotes};
 ghost use Rattle.uf_mfs.specs.Bad.{IsBadInTree};
+ghost use Rattle.uf_mfs.specs.Missing.{put_needs};
 ghost use Rattle.uf_mfs.specs.Standing.{IsMfs, StandsOver};
 ghost use Rattle.uf_mfs.specs.Touches.{CountsUp};
-ghost use Rattle.uf_plain.specs.Moves.{spotted};
+ghost use Rattle.uf_plain.specs.Moves.{spot_names, spotted};
 ghost use Rattle.uf_command.specs.Dags.{IsToldAs, adopted_name as name_adopted, usual_limits};
 ghost use Rattle.uf_command.specs.Kinds.{IsOf, refusal_fault};
 ghost use Rattle.uf_top.specs.Lent.{OverStore};
 ghost use Rattle.uf_top.specs.Reply.{adopted, by_rule};
 ghost use Rattle.uf_command.specs.declared.types.Command.TheVariants as commands;
+ghost use Rattle.uf_store.specs.Among.{SavesAmong};
 ghost use Rattle.uf_store.specs.Calls.{OnlyReads, OnlySaves};
 ghost use Rattle.uf_store.specs.Faults.{NoneIsBad};
 ghost use Rattle.uf_tree.specs.Tree.{Dir, Entries, Tree};
 ghost use Rattle.uf_tree.specs.TreePlan.{blocks};
 ghost use Rattle.uf_tree.specs.declared.profile.Profile.{Profile as TheProfile};
-ghost use Rattle.uf_top.specs.Grafts.{BuildsPlanned, FollowsOr, GraftsIn, IsLostBy, PutsTree, TouchesUp};
+ghost use Rattle.uf_top.specs.Grafts.{BuildsPlanned, FollowsOr, GraftsIn, IsLostBy, LeavesUnplaced, PutsTree};
+ghost use Rattle.uf_top.specs.Grafts.{SavesAdopted, SavesPut, TouchesUp};
+ghost use Rattle.uf_top.specs.Losing.{placing_needs};
 ghost use Rattle.uf_top.specs.Grafts.{adopt_refusal, graft_kinds, put_tree};
 ghost use Rattle.uf_top.specs.Naming.{TellsBlocks};
 ghost use Rattle.uf_top.specs.Working.{Does};
@@ -89,13 +93,19 @@ fn grafted<S: Store, N: NameHash, L: Ledger>(
     requires few { length source.now.names < 2 ^ 32 }
     requires mfs { IsMfs tree.old }
     ensures puts { (held : Lookup) → TellsBlocks (S.seen store.old).told held
-        → PutsTree S.X.block32 N.name64 tree.old tree.new (adopted S.X.block32 N.name64 held source.now dest.now)
-        result (S.seen store.old) (S.seen store.new) }
+        → PutsTree S.X.block32 N.name64 tree.old tree.new
+        (placing_needs S.X.block32 N.name64 dest.now (Some (name_adopted source.now)))
+        (adopted S.X.block32 N.name64 held source.now dest.now) result (S.seen store.old) (S.seen store.new) }
+    ensures unplaced { LeavesUnplaced S.X.block32 N.name64 tree.old source.now dest.now result (S.seen store.old)
+        (S.seen store.new) }
+    ensures no_other { SavesAdopted S.X.block32 N.name64 tree.old source.now dest.now (S.seen store.old)
+        (S.seen store.new) }
     ensures saves { OnlySaves S.X.block32
         (IsBadInTree S.X.block32 N.name64 (Some tree.old.profile) tree.old.root.cid) (refusal_fault result)
         (S.seen store.old) (S.seen store.new) }
     ensures kinds { IsOf graft_kinds result }
     ensures mfs { IsMfs tree.new }
+    ensures profile { tree.new.profile ≡ tree.old.profile }
     ensures touched { TouchesUp result touches.old touches.new }
 {
     let cid = tree_in(alloc, source, store, touches)?;
@@ -115,7 +125,8 @@ fn spot_for<S: Store, N: NameHash, L: Ledger>(
     ensures finds { (p : TheProfile) (es : Entries)
         → StandsOver S.X.block32 N.name64 (S.seen store.old).told tree.now p es
         → Stood (S.seen store.old).faults (S.seen store.new).faults
-        → FollowsOr (IsLostBy (S.seen store.old).told (blocks S.X.block32 N.name64 p (Dir es)))
+        → FollowsOr (IsLostBy (S.seen store.old).told
+        (placing_needs S.X.block32 N.name64 dest.now (Some (name_adopted source.now)) p es))
         (λ spot given. given ≡ spot) (by_rule (spotted dest.now (Some (name_adopted source.now)) es)) result }
     ensures reads { OnlyReads S.X.block32
         (IsBadInTree S.X.block32 N.name64 (Some tree.now.profile) tree.now.root.cid) (refusal_fault result)
@@ -143,13 +154,18 @@ fn put_at<S: Store, N: NameHash, L: Ledger>(
     requires mfs { IsMfs tree.old }
     ensures puts { (held : Lookup) (t : Tree) → HoldsGoodMap S.X.block32 held (S.seen store.old).told
         → denotes held usual_limits cid.now ≡ Ok t
-        → PutsTree S.X.block32 N.name64 tree.old tree.new (put_tree S.X.block32 N.name64 spot.now t) result
-        (S.seen store.old) (S.seen store.new) }
+        → PutsTree S.X.block32 N.name64 tree.old tree.new
+        (λ p es. put_needs S.X.block32 N.name64 p (spot_names spot.now) (Dir es))
+        (put_tree S.X.block32 N.name64 spot.now t) result (S.seen store.old) (S.seen store.new) }
+    ensures no_other { (held : Lookup) (t : Tree) → HoldsGoodMap S.X.block32 held (S.seen store.old).told
+        → denotes held usual_limits cid.now ≡ Ok t
+        → SavesPut S.X.block32 N.name64 tree.old spot.now t (S.seen store.old) (S.seen store.new) }
     ensures saves { OnlySaves S.X.block32
         (IsBadInTree S.X.block32 N.name64 (Some tree.old.profile) tree.old.root.cid) (refusal_fault result)
         (S.seen store.old) (S.seen store.new) }
     ensures kinds { IsOf graft_kinds result }
     ensures mfs { IsMfs tree.new }
+    ensures profile { tree.new.profile ≡ tree.old.profile }
     ensures touched { TouchesUp result touches.old touches.new }
 {
     let entry = built::<S, N, L>(alloc, tree, source, cid, store, touches)?;
@@ -172,6 +188,9 @@ fn built<S: Store, N: NameHash, L: Ledger>(
     ensures builds { (held : Lookup) (t : Tree) → HoldsGoodMap S.X.block32 held (S.seen store.old).told
         → denotes held usual_limits cid.now ≡ Ok t
         → BuildsPlanned S.X.block32 N.name64 tree.now.profile (S.seen store.new).told t result }
+    ensures no_other { (held : Lookup) (t : Tree) → HoldsGoodMap S.X.block32 held (S.seen store.old).told
+        → denotes held usual_limits cid.now ≡ Ok t → SavesAmong S.X.block32
+        (blocks S.X.block32 N.name64 tree.now.profile t) (S.seen store.old).told (S.seen store.new).told }
     ensures saves { OnlySaves S.X.block32 NoneIsBad (refusal_fault result) (S.seen store.old) (S.seen store.new) }
     ensures kinds { IsOf graft_kinds result }
     ensures touched { TouchesUp result touches.old touches.new }

@@ -16,10 +16,10 @@ returns-in-Mkdir-clause-edits g c =
     let a = g.S.Store.seen c.args.store.now in let b = g.S.Store.seen c.mkdir.new.store in
     subst (λ (edit : Edit). EditsInMemory X N c.args.tree.now c.mkdir.new.self edit c.args.path.now c.mkdir.result a b c.args.touches.now c.mkdir.new.touches) (sym c.in-Mkdir.is)
     (told-edit X N c.args.tree.now c.mkdir.new.self c.args.path.now a b c.args.touches.now c.mkdir.new.touches c.mkdir.result
-    (way-shown X N c.args.tree.now.profile c.mkdir.result a b c.args.tree.now.root.cid e.cause) e.touched e.good e.saves (Mkdir c.in-Mkdir.parents)
+    (way-shown X N c.args.tree.now.profile c.mkdir.result a b c.args.tree.now.root.cid e.cause) e.touched e.good e.saves e.stays (Mkdir c.in-Mkdir.parents)
     (λ p es. allowed X N p (made c.in-Mkdir.parents names es)) (λ p es. refl) e.answer e.lost
     (λ p es over stood is. (let i = idle-mkdir c.in-Mkdir.parents names es is in e.there p es i.0 over stood i.1 i.2))
-    (λ p rows same heights. e.touches p same))
+    (λ p rows same heights. e.touches p same) e.no_other)
 
 pub returns-in-Rm-clause-edits : goal.returns-in-Rm-clause-edits
 returns-in-Rm-clause-edits g c =
@@ -27,10 +27,10 @@ returns-in-Rm-clause-edits g c =
     let a = g.S.Store.seen c.args.store.now in let b = g.S.Store.seen c.rm.new.store in
     subst (λ (edit : Edit). EditsInMemory X N c.args.tree.now c.rm.new.self edit c.args.path.now c.rm.result a b c.args.touches.now c.rm.new.touches) (sym c.in-Rm.is)
     (told-edit X N c.args.tree.now c.rm.new.self c.args.path.now a b c.args.touches.now c.rm.new.touches c.rm.result
-    (way-shown X N c.args.tree.now.profile c.rm.result a b c.args.tree.now.root.cid e.cause) e.touched e.good e.saves (Rm c.in-Rm.recursive)
+    (way-shown X N c.args.tree.now.profile c.rm.result a b c.args.tree.now.root.cid e.cause) e.touched e.good e.saves e.stays (Rm c.in-Rm.recursive)
     (λ p es. removed c.in-Rm.recursive names es) (λ p es. refl) e.answer e.lost
     (λ p es over stood is. absurd cc)
-    (λ p rows same heights. e.touches p same))
+    (λ p rows same heights. e.touches p same) e.no_other)
 
 pub returns-in-Write-clause-edits : goal.returns-in-Write-clause-edits
 returns-in-Write-clause-edits g c =
@@ -38,10 +38,10 @@ returns-in-Write-clause-edits g c =
     let a = g.S.Store.seen c.args.store.now in let b = g.S.Store.seen c.write.new.store in
     subst (λ (edit : Edit). EditsInMemory X N c.args.tree.now c.write.new.self edit c.args.path.now c.write.result a b c.args.touches.now c.write.new.touches) (sym (c.in-Write.is ∙ ap (λ piece. Write c.in-Write.how piece) (sym c.as_slice.ensures)))
     (told-edit X N c.args.tree.now c.write.new.self c.args.path.now a b c.args.touches.now c.write.new.touches c.write.result
-    (file-shown X N c.args.tree.now.profile c.write.result a b c.args.tree.now.root.cid e.cause) e.touched e.good e.saves (Write c.in-Write.how c.as_slice.result.now)
+    (file-shown X N c.args.tree.now.profile c.write.result a b c.args.tree.now.root.cid e.cause) e.touched e.good e.saves e.stays (Write c.in-Write.how c.as_slice.result.now)
     (λ p es. allowed X N p (written c.in-Write.how c.as_slice.result.now names es)) (λ p es. refl) e.answer e.lost
     (λ p es over stood is. (let i = idle-write c.in-Write.how c.as_slice.result.now names es is in e.idle p es i.0 i.1 over stood i.2 i.3 i.4))
-    (λ p rows same heights. e.touches p rows same heights))
+    (λ p rows same heights. e.touches p rows same heights) e.no_other)
 
 pub returns-in-Truncate-clause-edits : goal.returns-in-Truncate-clause-edits
 returns-in-Truncate-clause-edits g c =
@@ -49,10 +49,10 @@ returns-in-Truncate-clause-edits g c =
     let a = g.S.Store.seen c.args.store.now in let b = g.S.Store.seen c.truncate.new.store in
     subst (λ (edit : Edit). EditsInMemory X N c.args.tree.now c.truncate.new.self edit c.args.path.now c.truncate.result a b c.args.touches.now c.truncate.new.touches) (sym c.in-Truncate.is)
     (told-edit X N c.args.tree.now c.truncate.new.self c.args.path.now a b c.args.touches.now c.truncate.new.touches c.truncate.result
-    (file-shown X N c.args.tree.now.profile c.truncate.result a b c.args.tree.now.root.cid e.cause) e.touched e.good e.saves (Truncate c.in-Truncate.length)
+    (file-shown X N c.args.tree.now.profile c.truncate.result a b c.args.tree.now.root.cid e.cause) e.touched e.good e.saves e.stays (Truncate c.in-Truncate.length)
     (λ p es. allowed X N p (truncated c.in-Truncate.length names es)) (λ p es. refl) e.answer e.lost
     (λ p es over stood is. absurd cc)
-    (λ p rows same heights. e.touches p rows same heights))
+    (λ p rows same heights. e.touches p rows same heights) e.no_other)
 
 pub returns-in-Cp-clause-edits : goal.returns-in-Cp-clause-edits
 returns-in-Cp-clause-edits g c =
@@ -68,8 +68,10 @@ returns-in-Cp-clause-edits g c =
       touches = λ p rows same heights.
           subst (λ q. TouchesFolder X N q a b [] was.root (copy_bound X N q names dest) c.args.touches.now c.cp.new.touches) same e.touches;
       touched = e.touched;
+      stays = e.stays;
       good = e.good;
       saves = e.saves;
+      no_other = e.no_other;
     })
 
 pub returns-in-Mv-clause-edits : goal.returns-in-Mv-clause-edits
@@ -86,8 +88,10 @@ returns-in-Mv-clause-edits g c =
       touches = λ p rows same heights.
           subst (λ q. TouchesFolder X N q a b [] was.root (move_bound X N q names dest) c.args.touches.now c.mv.new.touches) same e.touches;
       touched = e.touched;
+      stays = e.stays;
       good = e.good;
       saves = e.saves;
+      no_other = e.no_other;
     })
 
 pub returns-in-SetMeta-clause-edits : goal.returns-in-SetMeta-clause-edits

@@ -19,10 +19,10 @@ returns-in-Mode-clause-edits g c =
     let a = g.S.Store.seen c.args.store.now in let b = g.S.Store.seen c.set_mode.new.store in
     subst (λ (what : MetaEdit). EditsInMemory X N was c.set_mode.new.self (SetMeta what) c.args.path.now c.set_mode.result a b c.args.touches.now c.set_mode.new.touches) (sym c.in-Mode.is)
     (told-edit X N was c.set_mode.new.self c.args.path.now a b c.args.touches.now c.set_mode.new.touches c.set_mode.result
-    (root-shown X N was.profile c.set_mode.result a b was.root.cid e.cause) e.touched e.good e.saves (SetMeta what)
+    (root-shown X N was.profile c.set_mode.result a b was.root.cid e.cause) e.touched e.good e.saves e.stays (SetMeta what)
     (λ p es. allowed X N p (meta_edited what names es)) (λ p es. refl) e.answer e.lost
     (λ p es over stood is. (let i = meta-there what (at 0 names (Dir es)) is in e.idle p es i.0 over stood i.1 i.2))
-    (λ p rows same heights. subst (λ q. TouchesFolder X N q a b [] was.root (λ es. 64 * (length names + 3)) c.args.touches.now c.set_mode.new.touches) same e.touches))
+    (λ p rows same heights. subst (λ q. TouchesFolder X N q a b [] was.root (λ es. 64 * (length names + 3)) c.args.touches.now c.set_mode.new.touches) same e.touches) e.no_other)
 
 pub returns-in-Modified-clause-edits : goal.returns-in-Modified-clause-edits
 returns-in-Modified-clause-edits g c =
@@ -31,10 +31,10 @@ returns-in-Modified-clause-edits g c =
     let a = g.S.Store.seen c.args.store.now in let b = g.S.Store.seen c.set_mtime.new.store in
     subst (λ (what : MetaEdit). EditsInMemory X N was c.set_mtime.new.self (SetMeta what) c.args.path.now c.set_mtime.result a b c.args.touches.now c.set_mtime.new.touches) (sym c.in-Modified.is)
     (told-edit X N was c.set_mtime.new.self c.args.path.now a b c.args.touches.now c.set_mtime.new.touches c.set_mtime.result
-    (root-shown X N was.profile c.set_mtime.result a b was.root.cid e.cause) e.touched e.good e.saves (SetMeta what)
+    (root-shown X N was.profile c.set_mtime.result a b was.root.cid e.cause) e.touched e.good e.saves e.stays (SetMeta what)
     (λ p es. allowed X N p (meta_edited what names es)) (λ p es. refl) e.answer e.lost
     (λ p es over stood is. (let i = meta-there what (at 0 names (Dir es)) is in e.idle p es i.0 over stood i.1 i.2))
-    (λ p rows same heights. subst (λ q. TouchesFolder X N q a b [] was.root (λ es. 64 * (length names + 3)) c.args.touches.now c.set_mtime.new.touches) same e.touches))
+    (λ p rows same heights. subst (λ q. TouchesFolder X N q a b [] was.root (λ es. 64 * (length names + 3)) c.args.touches.now c.set_mtime.new.touches) same e.touches) e.no_other)
 
 pub returns-in-Strip-clause-edits : goal.returns-in-Strip-clause-edits
 returns-in-Strip-clause-edits g c =
@@ -43,7 +43,7 @@ returns-in-Strip-clause-edits g c =
     let a = g.S.Store.seen c.args.store.now in let b = g.S.Store.seen c.strip.new.store in
     subst (λ (what : MetaEdit). EditsInMemory X N was c.strip.new.self (SetMeta what) c.args.path.now c.strip.result a b c.args.touches.now c.strip.new.touches) (sym c.in-Strip.is)
     (told-edit X N was c.strip.new.self c.args.path.now a b c.args.touches.now c.strip.new.touches c.strip.result
-    (root-shown X N was.profile c.strip.result a b was.root.cid e.cause) e.touched e.good e.saves (SetMeta what)
+    (root-shown X N was.profile c.strip.result a b was.root.cid e.cause) e.touched e.good e.saves e.stays (SetMeta what)
     (λ p es. allowed X N p (meta_edited what names es)) (λ p es. refl) e.answer e.lost
     (λ p es over stood is. (let i = meta-there what (at 0 names (Dir es)) is in e.idle p es i.0 over stood i.1 i.2))
-    (λ p rows same heights. subst (λ q. TouchesFolder X N q a b [] was.root (λ es. 64 * (length names + 3)) c.args.touches.now c.strip.new.touches) same e.touches))
+    (λ p rows same heights. subst (λ q. TouchesFolder X N q a b [] was.root (λ es. 64 * (length names + 3)) c.args.touches.now c.strip.new.touches) same e.touches) e.no_other)

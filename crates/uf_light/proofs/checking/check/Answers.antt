@@ -1,4 +1,5 @@
 use Rattle.std.proofs.Common.{Err, Ok, Result, ◌⊎◌, ap, inr, subst, sym}
+use Rattle.uf_car.specs.Exporting.{WritesAll}
 use Rattle.uf_car.specs.Reading.{car_read}
 use Rattle.uf_store.specs.InMemory.{memory_seen}
 use Rattle.uf_store.specs.Seen.{Seen}
@@ -9,15 +10,17 @@ use Rattle.uf_light.specs.declared.fault.LightFault.{LightFault}
 use Rattle.uf_edge.specs.Streams.{AppendsPrefix}
 use Rattle.uf_fileread.proofs.Sending.{prefix-none}
 use Rattle.uf_light.specs.Answers.{Accepts, ClashesWithPlan, CountsSink, IsOwnFault, file_needs}
+use Rattle.uf_light.specs.Below.{HasNames}
 use Rattle.uf_light.specs.Checking.{reading_fault}
 use Rattle.uf_light.specs.Opening.{IsStopOr}
-use Rattle.uf_light.specs.Light.{HasHeight, light_says, said_bytes}
+use Rattle.uf_light.specs.Light.{HasHeight, absent_text, light_says, said_bytes}
 use Rattle.uf_light.specs.Sections.{AnswersTree, IsOkOrMemory, ShownBySections}
 use Rattle.uf_tree.specs.Validity.{IsHash}
 use Rattle.uf_light.proofs.Accepted.{not-counted, opening-stops, proof-is-accepted, proof-is-opened, reads-behind, sink-as}
 use Rattle.uf_light.specs.Sending.{ComesFirst}
 use Rattle.uf_light.proofs.First.{first-still}
-use Rattle.uf_light.proofs.Judging.{judges-err, judges-first, judges-front, judges-ok, keeps-own, reads-own, shows-err}
+use Rattle.uf_light.proofs.Below.{above-names}
+use Rattle.uf_light.proofs.Judging.{digested, judges-err, judges-first, judges-front, judges-ok, keeps-own, reads-own, shows-err}
 use Rattle.uf_light.proofs.checking.check.Goals as goal
 
 pub returns-in-Err-show-clause-tree : goal.returns-in-Err-show-clause-tree
@@ -105,3 +108,14 @@ returns-in-Err-show-clause-first g c = λ bytes p t height left is tall.
 
 pub returns-clause-first : goal.returns-clause-first
 returns-clause-first g c = λ bytes p t height left is tall. inr tt
+
+pub returns-clause-root : goal.returns-clause-root
+returns-clause-root g c = λ bytes left.
+    let X = g.X.BlockHash.block32 in let N = g.N.NameHash.name64 in let car = car_read X c.args.limit bytes in let root = c.args.asked.now.root in
+    above-names X root c.args.asked.now.names car.sections
+    (digested X N root car (memory_seen c.new-store.result) (memory_seen c.open.new.store) (memory_seen c.show.new.store) c.new-store.ensures.seen c.in-Ok.ensures.cause c.in-Ok.ensures.saves (c.in-Ok.ensures.opens bytes left (ap (λ (s : Seen). s.told) c.new-store.ensures.seen)))
+    (subst (λ l. HasNames X root l) c.as_slice-names.ensures c.in-Ok-show.ensures.root)
+
+pub returns-clause-line : goal.returns-clause-line
+returns-clause-line g c = λ absent.
+    subst (λ l. WritesAll (absent_text l) c.in-Ok-show.count (g.O.Sink.holds c.args.out.now) (g.O.Sink.holds c.show.new.out)) c.as_slice-names.ensures (c.in-Ok-show.ensures.line absent)

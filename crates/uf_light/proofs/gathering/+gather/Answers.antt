@@ -9,8 +9,8 @@ use Rattle.uf_light.specs.Bad.{IsBadOnPath, IsBadUnder, IsRequired}
 use Rattle.uf_light.proofs.Blaming.{under-bad}
 use Rattle.uf_light.specs.Gathered.{Gathers}
 use Rattle.uf_light.specs.Standing.{IsAgreedMember, IsAgreedThing}
-use Rattle.uf_light.proofs.Collecting.{ends-there, gather-none, gather-on, member-lost}
-use Rattle.uf_light.proofs.Finding.{first-rest, met-nothing, met-there, no-names}
+use Rattle.uf_light.proofs.Collecting.{ends-there, gather-none, gather-on}
+use Rattle.uf_light.proofs.Finding.{first-rest, look-lost, met-nothing, met-there, no-names}
 use Rattle.uf_light.proofs.Seeing.{folder-tree, member-nothing, member-tree}
 use Rattle.uf_light.proofs.gathering.+gather.Goals as goal
 
@@ -24,7 +24,9 @@ returns-in_err-gather_member-clause-gathers g t c = λ p u s stood.
     let X = g.S.X.BlockHash.block32 in let N = g.N.NameHash.name64 in let told = (g.S.Store.seen c.args.store.now).told in let name = c.name-item.result in
     let folder = folder-tree X N told p u c.in-Folder.folder (subst (λ x. IsAgreedThing X N told p u x) c.in-Folder.is s) in
     let out = err_from_is_err_and c.from_residual.result c.from_residual.ensures.1 in let f = c.in_err-gather_member.field-0.0 in
-    rw (out.1, out.2) (member-lost X N p told name folder.0 u f folder.1 (c.in_err-gather_member.ensures.gathers p folder.0 folder.2 stood))
+    let more = take (length c.args.names.now - 1) (drop 1 c.args.names.now) in
+    let names : name ∷ more ≡ c.args.names.now = first-rest c.args.names.now name c.in-len1-up.len_at_least c.name-item.is in
+    rw (out.1, out.2) (look-lost X N p (record { size = g.met.S.X.BlockHash.size; are_bytes = g.met.S.X.BlockHash.are_bytes }) told name more c.args.names.now folder.0 u f names folder.1 (c.in_err-gather_member.ensures.gathers p folder.0 folder.2 stood))
 
 pub returns-in-None-clause-gathers : goal.returns-in-None-clause-gathers
 returns-in-None-clause-gathers g t c = λ p u s stood.

@@ -1,4 +1,4 @@
-use Rattle.std.proofs.Common.{◌∷◌, ◌++◌, ◌∙◌, [], Err, List, None, Ok, Some, ap, arith, refl, subst, sym}
+use Rattle.std.proofs.Common.{◌∷◌, ◌++◌, ◌∙◌, [], Err, List, None, Ok, Some, ap, arith, length, length-append, refl, subst, sym}
 use Rattle.std.proofs.lemmas.Result.{err_from_is_err_and}
 use Rattle.uf_cid.specs.declared.cid.Cid.{Cid}
 use Rattle.uf_store.specs.Calls.{OnlyReads}
@@ -13,7 +13,7 @@ use Rattle.uf_tree.specs.Roots.{root_over}
 use Rattle.uf_tree.specs.Validity.{IsHash}
 use Rattle.uf_fileread.proofs.Sending.{root-agrees}
 use Rattle.uf_light.specs.FileCids.{IsBadInSome, below, cids_in}
-use Rattle.uf_light.proofs.Going.{ends, goes-on, next-agrees, starts, stops, taken}
+use Rattle.uf_light.proofs.Going.{ends, goes-on, next-agrees, no-more, one-more, starts, stops, taken}
 use Rattle.uf_light.proofs.listing.file_cids.Goals as goal
 
 pub loop-init : goal.loop-init
@@ -23,7 +23,7 @@ loop-init g c = record {
       starts X good p (g.S.Store.seen c.args.store.now).told m bytes height c.args.entry.now.cid c.new-cids.result c.push.new.self is c.new-cids.ensures
       (c.in_ok-push.ensures.ok ∙ ap (λ (l : List Cid). c.args.entry.now.cid ∷ l) c.new-due.ensures);
   reads = record { cause = StaysCalm-refl _; told = refl };
-  touched = omega arith;
+  touched = let none = ap length c.new-cids.ensures in omega (arith, none);
 }
 
 pub loop-preserved : goal.loop-preserved
@@ -46,7 +46,10 @@ loop-preserved g c = record {
       let more : OnlyReads g.S.X.BlockHash.block32 (IsBadInSome (g.S.Store.seen c.args.store.now).told) None (g.S.Store.seen c.loop.store) (g.S.Store.seen c.parts_below.new.store) =
       record { cause = c.in_ok-parts.ensures.reads.cause; told = c.in_ok-parts.ensures.reads.told } in
       reads-reads c.loop.invariant.reads more;
-  touched = let before = c.loop.invariant.touched in let more = c.in_ok-parts.ensures.touched in omega (arith, before, more);
+  touched =
+      let before = c.loop.invariant.touched in let more = c.in_ok-parts.ensures.touches in
+      let all = ap length c.in_ok-push-2.ensures.ok in let parts = length-append c.loop.cids (c.in-Some.cid ∷ []) in
+      omega (arith, before, more, all, parts);
 }
 
 pub returns-in_default-clause-value : goal.returns-in_default-clause-value
@@ -77,3 +80,50 @@ returns-in_err-parts-clause-reads g c =
     let some = reads-by (IsBadInSome b.told) (λ role block bad. (c.in-Some.cid, bad)) c.in_err-parts.ensures.reads in
     let out = err_from_is_err_and c.from_residual-in_err-parts.result c.from_residual-in_err-parts.ensures.1 in
     rw (out.1, out.2) (reads-reads c.loop.invariant.reads (subst (λ (t : Told). OnlyReads X (IsBadInSome t) (Some c.in_err-parts.field-0.0) b d) c.loop.invariant.reads.told some))
+
+pub returns-in_err-push-clause-few : goal.returns-in_err-push-clause-few
+returns-in_err-push-clause-few g c = λ p m bytes height is agrees stood. omega arith
+
+pub returns-in_default-clause-few : goal.returns-in_default-clause-few
+returns-in_default-clause-few g c = λ p m bytes height is agrees stood.
+    let X = g.S.X.BlockHash.block32 in let good : IsHash X = record { size = g.met.S.X.BlockHash.size; are_bytes = g.met.S.X.BlockHash.are_bytes } in
+    let few = no-more X good p (g.S.Store.seen c.args.store.now).told (whole_blocks X p.chunk p.width m height bytes) c.loop.cids c.loop.due (c.loop.invariant.gone p m bytes height is agrees stood) in
+    let before = c.loop.invariant.touched in omega (arith, few, before)
+
+pub returns-clause-few : goal.returns-clause-few
+returns-clause-few g c = λ p m bytes height is agrees stood.
+    let X = g.S.X.BlockHash.block32 in let good : IsHash X = record { size = g.met.S.X.BlockHash.size; are_bytes = g.met.S.X.BlockHash.are_bytes } in
+    let few = no-more X good p (g.S.Store.seen c.args.store.now).told (whole_blocks X p.chunk p.width m height bytes) c.loop.cids c.loop.due (c.loop.invariant.gone p m bytes height is agrees stood) in
+    let before = c.loop.invariant.touched in omega (arith, few, before)
+
+pub returns-in_err-parts-clause-few : goal.returns-in_err-parts-clause-few
+returns-in_err-parts-clause-few g c = λ p m bytes height is agrees stood.
+    let X = g.S.X.BlockHash.block32 in let good : IsHash X = record { size = g.met.S.X.BlockHash.size; are_bytes = g.met.S.X.BlockHash.are_bytes } in
+    let a = g.S.Store.seen c.args.store.now in let b = g.S.Store.seen c.loop.store in let d = g.S.Store.seen c.parts_below.new.store in
+    let front = stood-front a.faults b.faults d.faults c.loop.invariant.reads.cause.faults (shown-rises X _ (Some c.in_err-parts.field-0.0) b d c.in_err-parts.ensures.reads.cause).faults stood in
+    let whole = whole_blocks X p.chunk p.width m height bytes in
+    let n = taken X good p a.told whole c.loop.cids c.loop.due c.in-Some.cid c.pop.new.self (c.loop.invariant.gone p m bytes height is agrees front) c.in-Some.ensures in
+    let few = one-more X good p a.told whole c.loop.cids c.in-Some.cid c.pop.new.self n in
+    let before = c.loop.invariant.touched in let more = c.in_err-parts.ensures.touches in omega (arith, few, before, more)
+
+pub returns-in_err-push-2-clause-few : goal.returns-in_err-push-2-clause-few
+returns-in_err-push-2-clause-few g c = λ p m bytes height is agrees stood.
+    let X = g.S.X.BlockHash.block32 in let good : IsHash X = record { size = g.met.S.X.BlockHash.size; are_bytes = g.met.S.X.BlockHash.are_bytes } in
+    let a = g.S.Store.seen c.args.store.now in let b = g.S.Store.seen c.loop.store in let d = g.S.Store.seen c.parts_below.new.store in
+    let later = c.in_ok-parts.ensures.reads.cause.faults in
+    let front = stood-front a.faults b.faults d.faults c.loop.invariant.reads.cause.faults (omega (arith, later)) stood in
+    let whole = whole_blocks X p.chunk p.width m height bytes in
+    let n = taken X good p a.told whole c.loop.cids c.loop.due c.in-Some.cid c.pop.new.self (c.loop.invariant.gone p m bytes height is agrees front) c.in-Some.ensures in
+    let few = one-more X good p a.told whole c.loop.cids c.in-Some.cid c.pop.new.self n in
+    let before = c.loop.invariant.touched in let more = c.in_ok-parts.ensures.touches in omega (arith, few, before, more)
+
+pub returns-in_err-put_parts-clause-few : goal.returns-in_err-put_parts-clause-few
+returns-in_err-put_parts-clause-few g c = λ p m bytes height is agrees stood.
+    let X = g.S.X.BlockHash.block32 in let good : IsHash X = record { size = g.met.S.X.BlockHash.size; are_bytes = g.met.S.X.BlockHash.are_bytes } in
+    let a = g.S.Store.seen c.args.store.now in let b = g.S.Store.seen c.loop.store in let d = g.S.Store.seen c.parts_below.new.store in
+    let later = c.in_ok-parts.ensures.reads.cause.faults in
+    let front = stood-front a.faults b.faults d.faults c.loop.invariant.reads.cause.faults (omega (arith, later)) stood in
+    let whole = whole_blocks X p.chunk p.width m height bytes in
+    let n = taken X good p a.told whole c.loop.cids c.loop.due c.in-Some.cid c.pop.new.self (c.loop.invariant.gone p m bytes height is agrees front) c.in-Some.ensures in
+    let few = one-more X good p a.told whole c.loop.cids c.in-Some.cid c.pop.new.self n in
+    let before = c.loop.invariant.touched in let more = c.in_ok-parts.ensures.touches in omega (arith, few, before, more)

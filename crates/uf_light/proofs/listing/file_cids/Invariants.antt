@@ -1,4 +1,4 @@
-use Rattle.std.proofs.Common.{◌≤◌, ℕ, List, None}
+use Rattle.std.proofs.Common.{◌≡◌, ◌+◌, ℕ, List, None, length}
 use Rattle.uf_edge.specs.Counts.{Stood}
 use Rattle.uf_store.specs.Calls.{OnlyReads}
 use Rattle.uf_store.specs.Keeping.{Agrees}
@@ -18,5 +18,5 @@ invariant-loop g l = record {
       → Stood (g.S.Store.seen l.fn.store).faults (g.S.Store.seen l.store).faults
       → Gone g.S.X.BlockHash.block32 p (g.S.Store.seen l.fn.store).told (whole_blocks g.S.X.BlockHash.block32 p.chunk p.width m height bytes) l.cids l.due;
   reads : OnlyReads g.S.X.BlockHash.block32 (IsBadInSome (g.S.Store.seen l.fn.store).told) None (g.S.Store.seen l.fn.store) (g.S.Store.seen l.store);
-  touched : l.initial.touches ≤ l.touches;
+  touched : l.touches ≡ l.initial.touches + length l.cids;
 }

@@ -1,4 +1,4 @@
-use Rattle.std.proofs.Common.{◌≡◌, ◌+◌, ◌-◌, ◌∷◌, Some, drop, length, subst, sym, take}
+use Rattle.std.proofs.Common.{◌≡◌, ◌+◌, ◌-◌, ◌∷◌, Some, Ok, drop, length, subst, sym, take}
 use Rattle.std.proofs.lemmas.Result.{err_from_is_err_and}
 use Rattle.std.specs.Prelude.{IfSome}
 use Rattle.uf_store.proofs.Calls.{reads-by, reads-reads, shown-rises, stood-back, stood-front}
@@ -7,6 +7,7 @@ use Rattle.uf_store.specs.Faults.{fault_in}
 use Rattle.uf_plain.specs.Edits.{at, child}
 use Rattle.uf_plain.specs.Needs.{way}
 use Rattle.uf_light.specs.Bad.{IsBadOnPath, IsBadUnder, IsRequired}
+use Rattle.uf_light.proofs.Below.{ends-at, ends-below}
 use Rattle.uf_light.proofs.Blaming.{under-bad}
 use Rattle.uf_light.specs.Standing.{IsAgreedMember, IsAgreedThing, IsMet, LosesOr}
 use Rattle.uf_light.proofs.Finding.{first-rest, look-lost, look-on, met-nothing, met-there, no-names}
@@ -61,3 +62,12 @@ returns-in-Some-clause-reads g t c =
     let below = subst (λ o. IfSome o (IsRequired X folder)) c.in-Some.is c.in_ok-member.ensures.required in
     subst (λ x. OnlyReads X (IsBadUnder X N x) (fault_in c.look.result) a d) (sym c.in-Folder.is)
     (reads-reads c.in_ok-member.ensures.reads (reads-by (IsBadOnPath X N folder) (under-bad X N folder c.in-Some.below below) c.look.ensures.reads))
+
+pub returns-in_default-clause-ends : goal.returns-in_default-clause-ends
+returns-in_default-clause-ends g t c = ends-at c.args.thing c.args.names.now _ (no-names c.args.names.now c.in_default.len_below)
+
+pub returns-in-None-clause-ends : goal.returns-in-None-clause-ends
+returns-in-None-clause-ends g t c = ends-below c.args.thing c.in-Folder.folder c.args.names.now (Ok _) c.in-Folder.is
+
+pub returns-in-Some-clause-ends : goal.returns-in-Some-clause-ends
+returns-in-Some-clause-ends g t c = ends-below c.args.thing c.in-Folder.folder c.args.names.now c.look.result c.in-Folder.is

@@ -43,3 +43,30 @@ returns-clause-some g c = λ e p m bytes height is file agrees stood.
     let same : c.in-Some.entry ≡ e = (let one : Some c.in-Some.entry ≡ Some e = sym c.in-Some.is ∙ is in cc) in
     let found = c.in_ok-blocks.ensures.value p m bytes height (subst (λ (x : Entry). IsFile X p m bytes x.cid height) (sym same) file) agrees stood in
     record { added = c.in_ok-append.ensures.ok ∙ ap (λ (l : List Cid). c.args.cids.now ++ l) (c.as_slice.ensures ∙ found.0); held = found.1 }
+
+pub returns-in_err-blocks-clause-untouched : goal.returns-in_err-blocks-clause-untouched
+returns-in_err-blocks-clause-untouched g c = λ empty. absurd (let no : None ≡ Some c.in-Some.entry = sym empty ∙ c.in-Some.is in cc)
+
+pub returns-in_err-append-clause-untouched : goal.returns-in_err-append-clause-untouched
+returns-in_err-append-clause-untouched g c = λ empty. absurd (let no : None ≡ Some c.in-Some.entry = sym empty ∙ c.in-Some.is in cc)
+
+pub returns-clause-untouched : goal.returns-clause-untouched
+returns-clause-untouched g c = λ empty. absurd (let no : None ≡ Some c.in-Some.entry = sym empty ∙ c.in-Some.is in cc)
+
+pub returns-in_default-clause-few : goal.returns-in_default-clause-few
+returns-in_default-clause-few g c = λ e is p m bytes height file agrees stood. absurd (let no : None ≡ Some e = sym c.in_default.is ∙ is in cc)
+
+pub returns-in_err-blocks-clause-few : goal.returns-in_err-blocks-clause-few
+returns-in_err-blocks-clause-few g c = λ e is p m bytes height file agrees stood.
+    let same : c.in-Some.entry ≡ e = (let one : Some c.in-Some.entry ≡ Some e = sym c.in-Some.is ∙ is in cc) in
+    c.in_err-blocks.ensures.few p m bytes height (subst (λ (x : Entry). IsFile g.S.X.BlockHash.block32 p m bytes x.cid height) (sym same) file) agrees stood
+
+pub returns-in_err-append-clause-few : goal.returns-in_err-append-clause-few
+returns-in_err-append-clause-few g c = λ e is p m bytes height file agrees stood.
+    let same : c.in-Some.entry ≡ e = (let one : Some c.in-Some.entry ≡ Some e = sym c.in-Some.is ∙ is in cc) in
+    c.in_ok-blocks.ensures.few p m bytes height (subst (λ (x : Entry). IsFile g.S.X.BlockHash.block32 p m bytes x.cid height) (sym same) file) agrees stood
+
+pub returns-clause-few : goal.returns-clause-few
+returns-clause-few g c = λ e is p m bytes height file agrees stood.
+    let same : c.in-Some.entry ≡ e = (let one : Some c.in-Some.entry ≡ Some e = sym c.in-Some.is ∙ is in cc) in
+    c.in_ok-blocks.ensures.few p m bytes height (subst (λ (x : Entry). IsFile g.S.X.BlockHash.block32 p m bytes x.cid height) (sym same) file) agrees stood

@@ -1,4 +1,4 @@
-use Rattle.std.proofs.Common.{◌≡◌, ◌^◌, ◌-◌, ◌∙◌, Option, None, Some, Result, Ok, inl, inr, ap, arith, subst, sym}
+use Rattle.std.proofs.Common.{◌≡◌, ◌^◌, ◌-◌, ◌∙◌, Bool, Option, None, Some, Result, Ok, inl, inr, ap, arith, subst, sym}
 use Rattle.std.proofs.lemmas.Result.{err_from_is_err_and}
 use Rattle.uf_fileread.specs.Ranges.{blocks_read}
 use Rattle.uf_store.proofs.Calls.{reads-by, reads-reads, shown-rises, stood-back, stood-front}
@@ -19,6 +19,7 @@ use Rattle.uf_light.specs.Answers.{light_fault}
 use Rattle.uf_light.specs.Bad.{IsBadLight}
 use Rattle.uf_light.specs.FileCids.{IsBadInSome}
 use Rattle.uf_light.specs.Light.{absent_text, light_says}
+use Rattle.uf_light.proofs.Below.{follows, if-ok, line-sent, none-absent}
 use Rattle.uf_light.proofs.Blaming.{root-bad, under-bad}
 use Rattle.uf_light.proofs.Fronts.{front-absent, front-said}
 use Rattle.uf_light.specs.Met.{wanted_of}
@@ -169,3 +170,19 @@ returns-in-Some-clause-first g c = λ p t height s stood tall.
 
 pub returns-in-None-clause-first : goal.returns-in-None-clause-first
 returns-in-None-clause-first g c = λ p t height s stood tall. first-absent (absent_text c.args.names.now) c.send_absent.result _ _ c.send_absent.ensures.sends
+
+pub returns-in-Some-clause-root : goal.returns-in-Some-clause-root
+returns-in-Some-clause-root g c =
+    if-ok c.send_file.result (follows g.S.X.BlockHash.block32 c.args.root.now c.args.absent c.in_ok-thing.thing c.args.names.now c.in_ok-met.met c.in_ok-file.field-0 c.in_ok-thing.ensures.seen c.in_ok-met.ensures.ends (sym c.in_ok-file.ensures))
+
+pub returns-in-None-clause-root : goal.returns-in-None-clause-root
+returns-in-None-clause-root g c =
+    if-ok c.send_absent.result (follows g.S.X.BlockHash.block32 c.args.root.now c.args.absent c.in_ok-thing.thing c.args.names.now c.in_ok-met.met c.in_ok-file.field-0 c.in_ok-thing.ensures.seen c.in_ok-met.ensures.ends (sym c.in_ok-file.ensures))
+
+pub returns-in-Some-clause-line : goal.returns-in-Some-clause-line
+returns-in-Some-clause-line g c = λ absent.
+    let is : ◌≡◌ {A = Result (Option Entry) LightFault} (wanted_of c.args.absent c.in_ok-met.met) (Ok (Some c.in-Some.file)) = sym c.in_ok-file.ensures ∙ ap (λ (o : Option Entry). Ok o) c.in-Some.is in
+    absurd (none-absent c.in_ok-met.met c.in-Some.file (subst (λ (b : Bool). ◌≡◌ {A = Result (Option Entry) LightFault} (wanted_of b c.in_ok-met.met) (Ok (Some c.in-Some.file))) absent is))
+
+pub returns-in-None-clause-line : goal.returns-in-None-clause-line
+returns-in-None-clause-line g c = λ absent. line-sent (absent_text c.args.names.now) c.send_absent.result _ _ c.send_absent.ensures.sends

@@ -18,6 +18,7 @@ loop-place-init g c = record {
   few = omega arith;
   reads = record { cause = StaysCalm-refl _; told = refl };
   counted = c.in-Done.ensures.counts.still refl;
+  touched = omega arith;
 }
 
 pub returns-in-Failed-clause-text : goal.returns-in-Failed-clause-text
@@ -55,6 +56,7 @@ loop-place-preserved g c =
       few = omega arith;
       reads = reads-reads c.loop-place.invariant.reads c.in_ok-count-in-Some.ensures.reads;
       counted = c.in_ok-count-in-Some.ensures.counts.still refl ∙ c.loop-place.invariant.counted;
+      touched = let before = c.loop-place.invariant.touched in let more = c.in_ok-count-in-Some.ensures.touches in omega (arith, before, more);
     }
 
 pub returns-in_err-count-in-Some-clause-some : goal.returns-in_err-count-in-Some-clause-some

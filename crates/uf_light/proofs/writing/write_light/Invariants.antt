@@ -13,4 +13,5 @@ invariant-loop-place g l = record {
   few : l.written ≤ 59 + l.place * 2097198;
   reads : OnlyReads g.S.X.BlockHash.block32 NoneIsBad None (g.S.Store.seen l.fn.store) (g.S.Store.seen l.store);
   counted : g.O.Sink.faults l.out ≡ g.O.Sink.faults l.fn.out;
+  touched : l.touches ≡ l.initial.touches + l.place;
 }

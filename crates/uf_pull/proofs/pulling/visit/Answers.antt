@@ -1,13 +1,22 @@
-use Rattle.std.proofs.Common.{◌≡◌, ◌∙◌, Bool, ap, refl, subst, sym, None, Some, Ok, Err}
+use Rattle.std.proofs.Common.{◌≡◌, ◌∙◌, suc, Bool, ap, refl, subst, sym, None, Some, Ok, Err}
 use Rattle.std.proofs.lemmas.Result.{err_from_is_err_and}
 use Rattle.std.specs.Prelude.{IfSome}
 use Rattle.uf_store.specs.Contents.{held_at}
 use Rattle.uf_walk.specs.Turns.{TakesDue}
-use Rattle.uf_pull.specs.Pulling.{LooksFor, stand}
+use Rattle.uf_pull.specs.Pulling.{LooksFor, due_at, stand}
 use Rattle.uf_pull.specs.Reading.{pull_fault, stops_pull}
 use Rattle.uf_pull.proofs.Pullings.{pulls-pulls, pulls-reads, pulls-saves}
-use Rattle.uf_pull.proofs.Visiting.{held_taken, held_untaken, unasked}
+use Rattle.uf_pull.proofs.Visiting.{held_taken, held_untaken, stopped_by, stopped_so, unasked}
+use Rattle.uf_pull.proofs.Written.{part-none}
 use Rattle.uf_pull.proofs.pulling.visit.Goals as goal
+
+pub returns-in_err-is_held-clause-visits : goal.returns-in_err-is_held-clause-visits
+returns-in_err-is_held-clause-visits g c = λ t bytes root is left on.
+    let out = err_from_is_err_and c.from_residual.result c.from_residual.ensures.1 in
+    let looks = c.in_err-is_held.ensures.looks in
+    rw (out.1, out.2) (λ n. stopped_by c.in_err-is_held.field-0.0 (due_at g.S.X.BlockHash.block32 c.args.walk.now.most root (suc n) t (stand c.args.peer.now) bytes) (stand c.args.peer.now).place bytes t
+    (g.S.Store.seen c.is_held.new.store).told (g.O.Sink.holds c.args.out.now) (g.O.Sink.holds c.args.out.now) (g.I.Source.left c.args.input.now) looks.1
+    (stopped_so _ t _ _ _ (looks.0 ∙ is) (part-none _ _ _ refl)))
 
 pub returns-in_err-take-clause-visits : goal.returns-in_err-take-clause-visits
 returns-in_err-take-clause-visits g c = λ t bytes root is left on.

@@ -15,18 +15,18 @@ pub returns-in-Err : goal.returns-in-Err
 returns-in-Err g c =
     let e = c.in-Err.ensures in
     unplaced g.S.X.BlockHash.block32 g.N.NameHash.name64 c.args.found.tree c.place.new.self c.args.found.spot c.args.given (g.S.Store.seen c.args.store.now) (g.S.Store.seen c.place.new.store) c.requires c.args.touches.now c.place.new.touches
-    c.in-Err.fault c.refusal.result c.refusal.ensures e.cause e.good e.saves e.touched e.lost
+    c.in-Err.fault c.refusal.result c.refusal.ensures e.cause e.good e.saves e.no_other e.touched e.touches e.missing e.lost
 
 pub returns-in-Err-commit : goal.returns-in-Err-commit
 returns-in-Err-commit g c =
     let e = c.in-Ok.ensures in let k = c.in-Err-commit.ensures in
     uncommitted g.S.X.BlockHash.block32 g.N.NameHash.name64 c.args.found.tree c.place.new.self c.args.found.spot c.args.given (g.S.Store.seen c.args.store.now) (g.S.Store.seen c.place.new.store) c.requires c.args.touches.now c.place.new.touches
-    e.cause e.good e.saves e.lost (g.S.Store.seen c.commit.new.store) k.good c.commit.new.touches e.touched.kept
+    e.cause e.good e.saves e.no_other e.lost e.touches (g.S.Store.seen c.commit.new.store) k.good c.commit.new.touches k.touches e.touched.kept
     c.in-Err-commit.fault c.refusal-in-Err-commit.result c.refusal-in-Err-commit.ensures k.answer k.leaves k.cause k.touched
 
 pub returns-in-Ok-commit : goal.returns-in-Ok-commit
 returns-in-Ok-commit g c =
     let e = c.in-Ok.ensures in let k = c.in-Ok-commit.ensures in
     committed g.S.X.BlockHash.block32 g.N.NameHash.name64 c.args.found.tree c.place.new.self c.args.found.spot c.args.given (g.S.Store.seen c.args.store.now) (g.S.Store.seen c.place.new.store) c.requires c.args.touches.now c.place.new.touches
-    e.cause e.good e.saves e.lost (g.S.Store.seen c.commit.new.store) k.good c.commit.new.touches e.touched.kept
-    k.commits k.cause
+    e.cause e.good e.saves e.no_other e.lost e.touches (g.S.Store.seen c.commit.new.store) k.good c.commit.new.touches k.touches e.touched.kept
+    e.stays.2 k.commits k.cause

@@ -23,3 +23,9 @@ pub returns-in-Err-clause-saves : goal.returns-in-Err-clause-saves
 returns-in-Err-clause-saves g c =
     let a = g.S.Store.seen c.args.store.now in let b = g.S.Store.seen c.adopt_surveyed.new.store in let e = c.in-Err.ensures in
     record { cause = adopted-fault c.args.source.now c.in-Err.fault g.S.X.BlockHash.block32 a b c.adopting.result c.adopting.ensures e.apart e.cause; good = e.good; saves = e.saves }
+
+pub returns-in-Ok-clause-no_other : goal.returns-in-Ok-clause-no_other
+returns-in-Ok-clause-no_other g c = λ held t good denoted. c.in-Ok.ensures.no_other held t good denoted
+
+pub returns-in-Err-clause-no_other : goal.returns-in-Err-clause-no_other
+returns-in-Err-clause-no_other g c = λ held t good denoted. c.in-Err.ensures.no_other held t good denoted

@@ -12,16 +12,16 @@ returns-in_err-grafted g c =
     let out = err_from_is_err_and c.from_residual.result c.from_residual.ensures.1 in
     rw (out.1, out.2) (let e = c.in_err-grafted.ensures in
     graft-refused g.S.X.BlockHash.block32 g.N.NameHash.name64 c.args.tree c.grafted.new.tree c.args.source.now c.args.dest.now (g.S.Store.seen c.args.store.now) (g.S.Store.seen c.grafted.new.store)
-    c.in_err-grafted.field-0.0 e.puts e.saves e.kinds c.args.touches.now c.grafted.new.touches e.touched)
+    c.in_err-grafted.field-0.0 e.puts e.saves e.unplaced e.no_other e.kinds c.args.touches.now c.grafted.new.touches e.touched)
 
 pub returns-in-Err : goal.returns-in-Err
 returns-in-Err g c =
     let e = c.in_ok-grafted.ensures in let k = c.in-Err.ensures in
     graft-uncommitted g.S.X.BlockHash.block32 g.N.NameHash.name64 c.args.tree c.grafted.new.tree c.args.source.now c.args.dest.now (g.S.Store.seen c.args.store.now) (g.S.Store.seen c.grafted.new.store) (g.S.Store.seen c.commit.new.store)
-    e.puts e.saves k.good c.in-Err.fault c.refusal.result c.refusal.ensures k.answer k.leaves k.cause c.args.touches.now c.grafted.new.touches c.commit.new.touches e.touched k.touched
+    e.puts e.saves e.unplaced e.no_other k.good c.in-Err.fault c.refusal.result c.refusal.ensures k.answer k.leaves k.cause c.args.touches.now c.grafted.new.touches c.commit.new.touches e.touched k.touched
 
 pub returns-in-Ok : goal.returns-in-Ok
 returns-in-Ok g c =
     let e = c.in_ok-grafted.ensures in let k = c.in-Ok.ensures in
     graft-committed g.S.X.BlockHash.block32 g.N.NameHash.name64 c.args.tree c.grafted.new.tree c.args.source.now c.args.dest.now (g.S.Store.seen c.args.store.now) (g.S.Store.seen c.grafted.new.store) (g.S.Store.seen c.commit.new.store)
-    e.puts e.saves k.good k.commits k.cause c.args.touches.now c.commit.new.touches
+    e.puts e.saves e.unplaced e.no_other k.good e.profile k.commits k.cause c.args.touches.now c.commit.new.touches

@@ -8,6 +8,7 @@ use Rattle.uf_command.specs.Kinds.{fault_behind}
 use Rattle.uf_top.proofs.Putting.{is-put, not-put}
 use Rattle.uf_top.proofs.Grafted.{up-counts, up-ok, up-same}
 use Rattle.uf_top.proofs.Shows.{Shown-tree, tree-touched}
+use Rattle.uf_top.proofs.PutSaved.{built-saved, unbuilt-saved}
 use Rattle.uf_top.proofs.commands.files_cp.put_at.Goals as goal
 
 pub returns-in-Err-clause-puts : goal.returns-in-Err-clause-puts
@@ -21,7 +22,7 @@ returns-in-Err-clause-puts g c = λ held t good denoted.
       saves = k.saves;
     } in
     not-put X N c.args.tree.now c.place.new.self e.saves after (λ f u h. record { profile = c.requires.mfs; tree = h.tree; planned = h.planned; is = h.is })
-    c.args.spot.now t c.in_ok-entry.entry c.in-Err.fault c.refusal.result c.refusal.ensures (e.builds held t good denoted) k.lost
+    c.args.spot.now t c.in_ok-entry.entry c.in-Err.fault c.refusal.result c.refusal.ensures (e.builds held t good denoted) k.lost k.missing
 
 pub returns-in-Err-clause-saves : goal.returns-in-Err-clause-saves
 returns-in-Err-clause-saves g c =
@@ -68,3 +69,21 @@ returns-in-Ok-clause-touched g c =
     let second = c.in-Ok.ensures.touched.kept in
     let low : c.args.touches.now ≤ c.place.new.touches = omega (arith, first, second) in
     up-ok (Unit {0}) tt c.args.touches.now c.place.new.touches low
+
+pub returns-in_err-entry-clause-no_other : goal.returns-in_err-entry-clause-no_other
+returns-in_err-entry-clause-no_other g c =
+    λ held t good denoted p es over last can.
+    unbuilt-saved g.S.X.BlockHash.block32 g.N.NameHash.name64 c.args.tree.now c.args.spot.now t (g.S.Store.seen c.args.store.now) (g.S.Store.seen c.built.new.store)
+    (c.in_err-entry.ensures.no_other held t good denoted) p es over
+
+pub returns-in-Err-clause-no_other : goal.returns-in-Err-clause-no_other
+returns-in-Err-clause-no_other g c = λ held t good denoted p es over last can.
+    let e = c.in_ok-entry.ensures in let k = c.in-Err.ensures in
+    built-saved g.S.X.BlockHash.block32 g.N.NameHash.name64 c.args.tree.now c.place.new.self c.args.spot.now t c.in_ok-entry.entry (g.S.Store.seen c.args.store.now) (g.S.Store.seen c.built.new.store) (g.S.Store.seen c.place.new.store)
+    c.requires.mfs e.saves (e.no_other held t good denoted) (e.builds held t good denoted) k.good k.saves k.no_other p es over last can
+
+pub returns-in-Ok-clause-no_other : goal.returns-in-Ok-clause-no_other
+returns-in-Ok-clause-no_other g c = λ held t good denoted p es over last can.
+    let e = c.in_ok-entry.ensures in let k = c.in-Ok.ensures in
+    built-saved g.S.X.BlockHash.block32 g.N.NameHash.name64 c.args.tree.now c.place.new.self c.args.spot.now t c.in_ok-entry.entry (g.S.Store.seen c.args.store.now) (g.S.Store.seen c.built.new.store) (g.S.Store.seen c.place.new.store)
+    c.requires.mfs e.saves (e.no_other held t good denoted) (e.builds held t good denoted) k.good k.saves k.no_other p es over last can

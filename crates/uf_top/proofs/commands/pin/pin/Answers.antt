@@ -16,7 +16,7 @@ returns-in_err-add_pin-in-Add-clause-does g c = λ N left reads side er er2.
     as-asked g.S.X.BlockHash.block32 N (around (g.S.Store.seen c.args.store.now) left reads (g.O.Sink.holds c.args.output.now) (g.O.Sink.faults c.args.output.now) c.args.touches.now side er)
     (around (g.S.Store.seen c.add_pin.new.store) left reads (g.O.Sink.holds c.args.output.now) (g.O.Sink.faults c.args.output.now) c.add_pin.new.touches side er2)
     c.args.ask.now (pins.Add c.in-Add.cid) c.in-Add.is c.from_residual.result (Err (pin_refusal c.in_err-add_pin-in-Add.field-0.0)) (out.1 ∙ ap (λ (w : Refusal). Err w) out.2)
-    (adds g.S.X.BlockHash.block32 N (g.S.Store.seen c.args.store.now) (g.S.Store.seen c.add_pin.new.store) left reads (g.O.Sink.holds c.args.output.now) (g.O.Sink.faults c.args.output.now) c.args.touches.now c.add_pin.new.touches side er er2 c.in-Add.cid (Err c.in_err-add_pin-in-Add.field-0.0) e.added e.writes e.cause)
+    (adds g.S.X.BlockHash.block32 N (g.S.Store.seen c.args.store.now) (g.S.Store.seen c.add_pin.new.store) left reads (g.O.Sink.holds c.args.output.now) (g.O.Sink.faults c.args.output.now) c.args.touches.now c.add_pin.new.touches side er er2 c.in-Add.cid (Err c.in_err-add_pin-in-Add.field-0.0) e.added e.writes e.unread e.cause)
 
 pub returns-in_ok-add_pin-in-Add-clause-does : goal.returns-in_ok-add_pin-in-Add-clause-does
 returns-in_ok-add_pin-in-Add-clause-does g c = λ N left reads side er er2.
@@ -24,7 +24,7 @@ returns-in_ok-add_pin-in-Add-clause-does g c = λ N left reads side er er2.
     as-asked g.S.X.BlockHash.block32 N (around (g.S.Store.seen c.args.store.now) left reads (g.O.Sink.holds c.args.output.now) (g.O.Sink.faults c.args.output.now) c.args.touches.now side er)
     (around (g.S.Store.seen c.add_pin.new.store) left reads (g.O.Sink.holds c.args.output.now) (g.O.Sink.faults c.args.output.now) c.add_pin.new.touches side er2)
     c.args.ask.now (pins.Add c.in-Add.cid) c.in-Add.is (Ok tt) (Ok tt) refl
-    (adds g.S.X.BlockHash.block32 N (g.S.Store.seen c.args.store.now) (g.S.Store.seen c.add_pin.new.store) left reads (g.O.Sink.holds c.args.output.now) (g.O.Sink.faults c.args.output.now) c.args.touches.now c.add_pin.new.touches side er er2 c.in-Add.cid (Ok tt) e.added e.writes e.cause)
+    (adds g.S.X.BlockHash.block32 N (g.S.Store.seen c.args.store.now) (g.S.Store.seen c.add_pin.new.store) left reads (g.O.Sink.holds c.args.output.now) (g.O.Sink.faults c.args.output.now) c.args.touches.now c.add_pin.new.touches side er er2 c.in-Add.cid (Ok tt) e.added e.writes e.unread e.cause)
 
 pub returns-in_err-remove_pin-in-Remove-clause-does : goal.returns-in_err-remove_pin-in-Remove-clause-does
 returns-in_err-remove_pin-in-Remove-clause-does g c = λ N left reads side er er2.

@@ -11,6 +11,7 @@ returns g c = λ N side. record {
   tells = subst (λ done. TellsTalk (λ line. IsSent line (g.E.Sink.holds c.args.errors.now) (g.E.Sink.holds c.tell_talk.new.errors) (g.E.Sink.faults c.args.errors.now) (g.E.Sink.faults c.tell_talk.new.errors)) done c.tell_talk.result) c.pull_end.ensures c.tell_talk.ensures;
   pulls = c.pull-done.ensures.pulls;
   wants = c.pull-done.ensures.wants;
+  last = c.pull-done.ensures.last;
   some = c.pull-done.ensures.some;
   cause = c.pull-done.ensures.cause;
   fault = c.pull-done.ensures.fault;

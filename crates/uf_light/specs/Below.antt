@@ -1,0 +1,46 @@
+-- What `check` shows below a root that may be that of no tree.
+use Rattle.std.specs.Prelude.{◌≡◌, ◌⊎◌, ℕ, List, [], ◌∷◌, true, ⊤}
+use Rattle.std.specs.List.{AllByRecursion}
+use Rattle.std.specs.declared.option.Option.TheVariants.{None}
+use Rattle.uf_cid.specs.Blocks.{Held, IsClash}
+use Rattle.uf_cid.specs.declared.cid.Cid.{Cid}
+use Rattle.uf_tree.specs.Roles.{IsCanonicalDirectory}
+use Rattle.uf_light.specs.declared.met.PathEnd.{PathEnd}
+use Rattle.uf_light.specs.declared.met.PathEnd.TheVariants.{There, Nothing, Behind}
+use Rattle.uf_light.specs.declared.thing.TypedEntry.{TypedEntry}
+use Rattle.uf_light.specs.declared.thing.TypedEntry.TheVariants.{File, Folder}
+
+-- what names lead to from something: behind a file there is nothing
+abbrev pub MayEnd : TypedEntry → List (List ℕ) → PathEnd → Type 0
+MayEnd (Folder e) names met = ⊤
+MayEnd (File e) [] met = ⊤
+MayEnd (File e) (name ∷ names) (There thing) = ⊥
+MayEnd (File e) (name ∷ names) (Nothing place) = ⊥
+MayEnd (File e) (name ∷ names) (Behind place) = ⊤
+
+module _ (hash : List ℕ → List ℕ) (root : Cid) where
+  -- a block that is canonical as the root of a directory has this CID's digest
+  pub record HasDirectory : Type 0 where
+    pub block : List ℕ
+    pub digest : hash block ≡ root.digest
+    pub canonical : IsCanonicalDirectory None true block
+
+  -- what is under this CID is a file, or there is such a block
+  abbrev pub IsSeenAs : TypedEntry → Type 0
+  IsSeenAs (File e) = ⊤
+  IsSeenAs (Folder e) = HasDirectory
+
+  -- where there are names below it there is such a block
+  abbrev pub HasNames : List (List ℕ) → Type 0
+  HasNames [] = ⊤
+  HasNames (name ∷ names) = HasDirectory
+
+  -- each section with this CID is canonical as the root of a directory, or another block has its digest
+  abbrev pub AreDirectories : List Held → Type 0
+  AreDirectories sections = AllByRecursion (λ (section : Held). section.0 ≡ root
+      → IsCanonicalDirectory None true section.1 ⊎ ((other : List ℕ) × IsClash hash section.1 other)) sections
+
+  -- what an accepted CAR shows of a root with names below it: it is that of a directory, and so are its sections
+  abbrev pub IsAboveNames : List (List ℕ) → List Held → Type 0
+  IsAboveNames [] sections = ⊤
+  IsAboveNames (name ∷ names) sections = HasDirectory × AreDirectories sections
