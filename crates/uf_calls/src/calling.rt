@@ -5,9 +5,9 @@ use std::alloc::Global;
 use std::sync::ledger::Ledger;
 use uf_cache::Cached;
 use uf_cid::{Block, BlockHash, Memory};
-use uf_playing::{Caller, Player, Scene, call_store, play_lines, sweep};
-use uf_store::{MemStore, Steps};
-use uf_testing::{Sheet, begins_row, bytes_of, number_of, say, tell_count, word_and_rest};
+use uf_playing::{Caller, Player, Scene, call_store, sweep};
+use uf_store::{MemStore, Steps, Store, Sweep};
+use uf_testing::{Sheet, Stage, bytes_of, number_of, play_lines, say, tell_count, word_and_rest};
 
 /// The calls of this program, and how it plays the parts.
 pub struct BaseCalls;
@@ -40,10 +40,10 @@ impl Player for BaseCalls {
         touches: &mut Steps<L>,
     ) -> Result<(), Memory> {
         let Some((first, second)) = part.split_once("\n! cache ") else {
-            return play_lines::<BaseCalls, X, L>(scene, title, part, sheet, touches);
+            return play_lines::<BaseCalls, Scene<X>, L>(scene, title, part, sheet, touches);
         };
         let (entries, rest) = second.split_once('\n').unwrap_or((second, ""));
-        play_lines::<BaseCalls, X, L>(scene, title, first, sheet, touches)?;
+        play_lines::<BaseCalls, Scene<X>, L>(scene, title, first, sheet, touches)?;
         sheet.count_line();
         let line = format!(in scene.alloc; "! cache {entries}")?;
         sheet.tell(line.as_str())?;
@@ -89,44 +89,30 @@ fn call_on_bytes(
     nodes::call_on(alloc, word, bytes.as_slice(), told)
 }
 
-// Makes a call over a cache, and reports what comes of it.
-fn call_cached<X: BlockHash, L: Ledger>(
+// A cache over the store of a scene.
+#[derive(Drop)]
+struct OverCache<S: Store> {
     alloc: Global,
-    store: &mut Cached<MemStore<X>>,
-    line: &str,
-    told: &mut Block,
-    touches: &mut Steps<L>,
-) -> Result<(), Memory> {
-    let (_, line) = word_and_rest(line);
-    let (word, rest) = word_and_rest(line);
-    match word {
-        "" => Ok(()),
-        "kept" => tell_count(told, alloc, store.count()),
-        "sweep" => sweep(alloc, store, rest, told),
-        _ => {
-            if call_store(alloc, store, line, told, touches)? {
-                Ok(())
-            } else {
-                say(told, "no such call")
-            }
-        }
-    }
+    store: Cached<S>,
 }
 
-fn play_behind<X: BlockHash, L: Ledger>(
-    alloc: Global,
-    store: &mut Cached<MemStore<X>>,
-    part: (&str, &str),
-    sheet: &mut Sheet,
-    touches: &mut Steps<L>,
-) -> Result<(), Memory> {
-    let (title, lines) = part;
-    for line in lines.lines() {
-        if begins_row(title, line, sheet)? {
-            call_cached(alloc, store, line, &mut sheet.came, touches)?;
+impl<S: Sweep> Stage<BaseCalls> for OverCache<S> {
+    fn step<L: Ledger>(
+        &mut self,
+        line: &str,
+        told: &mut Block,
+        touches: &mut Steps<L>,
+    ) -> Result<(), Memory> {
+        let (_, line) = word_and_rest(line);
+        let (word, rest) = word_and_rest(line);
+        match word {
+            "" => Ok(()),
+            "kept" => tell_count(told, self.alloc, self.store.count()),
+            "sweep" => sweep(self.alloc, &mut self.store, rest, told),
+            _ if call_store(self.alloc, &mut self.store, line, told, touches)? => Ok(()),
+            _ => say(told, "no such call"),
         }
     }
-    sheet.settle(title)
 }
 
 // Puts a cache over the store of a scene, and plays the lines after it.
@@ -139,6 +125,10 @@ fn play_over<X: BlockHash, L: Ledger>(
 ) -> Result<(), Memory> {
     let below = scene.take_store();
     let entries = entries.min(1024).max(1) as usize;
-    let mut store = Cached::new(scene.alloc, below, entries)?;
-    play_behind(scene.alloc, &mut store, part, sheet, touches)
+    let store = Cached::new(scene.alloc, below, entries)?;
+    let mut stage = OverCache {
+        alloc: scene.alloc,
+        store,
+    };
+    play_lines::<BaseCalls, OverCache<MemStore<X>>, L>(&mut stage, part.0, part.1, sheet, touches)
 }

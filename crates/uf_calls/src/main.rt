@@ -16,8 +16,9 @@ mod walks;
 use crate::calling::BaseCalls;
 use std::io;
 use std::process::ExitCode;
-use uf_playing::play_input;
+use uf_playing::ByCalls;
+use uf_testing::play_input;
 
 fn main(rt: HostRuntime) -> io::Result<ExitCode> {
-    play_input::<BaseCalls, _>(&rt)
+    play_input::<ByCalls<BaseCalls>, _>(&rt)
 }

@@ -18,8 +18,9 @@ mod watched;
 use crate::calling::DagCalls;
 use std::io;
 use std::process::ExitCode;
-use uf_playing::play_input;
+use uf_playing::ByCalls;
+use uf_testing::play_input;
 
 fn main(rt: HostRuntime) -> io::Result<ExitCode> {
-    play_input::<DagCalls, _>(&rt)
+    play_input::<ByCalls<DagCalls>, _>(&rt)
 }

@@ -3,14 +3,12 @@
 #![tactic(auto)]
 
 mod playing;
-mod program;
 mod saying;
 mod scene;
 mod stores;
 mod values;
 
-pub use playing::{Caller, Player, play_lines};
-pub use program::play_input;
+pub use playing::{ByCalls, Caller, Player};
 pub use saying::{say_about, say_amount, say_cid, say_cids, say_debug, say_number};
 pub use scene::Scene;
 pub use stores::{call_store, cid_in, say_fault, say_put, sweep};

@@ -3,10 +3,11 @@
 use crate::scene::{Scene, set};
 use crate::stores::call_memory;
 use std::alloc::Global;
+use std::marker::PhantomData;
 use std::sync::ledger::Ledger;
 use uf_cid::{Block, BlockHash, Memory, Sha256Hash, Sum8Hash};
 use uf_store::Steps;
-use uf_testing::{Sheet, begins_row, ends_part, say, word_and_rest};
+use uf_testing::{Parts, Sheet, Stage, play_lines, say, word_and_rest};
 
 /// The calls that a program makes beside those of a store.
 pub trait Caller {
@@ -20,7 +21,7 @@ pub trait Caller {
 }
 
 /// How a program plays the parts of a transcript.
-pub trait Player: Caller {
+pub trait Player: Caller + Sized {
     /// Plays a part over a scene in which there is nothing: each line over what the one before left.
     fn play<X: BlockHash, L: Ledger>(
         scene: &mut Scene<X>,
@@ -29,7 +30,7 @@ pub trait Player: Caller {
         sheet: &mut Sheet,
         touches: &mut Steps<L>,
     ) -> Result<(), Memory> {
-        play_lines::<Self, X, L>(scene, title, part, sheet, touches)
+        play_lines::<Self, Scene<X>, L>(scene, title, part, sheet, touches)
     }
 }
 
@@ -129,36 +130,22 @@ fn tell_new(
     told.extend(now)
 }
 
-fn step<C: Caller, X: BlockHash, L: Ledger>(
-    scene: &mut Scene<X>,
-    line: &str,
-    told: &mut Block,
-    touches: &mut Steps<L>,
-) -> Result<(), Memory> {
-    let (mark, rest) = word_and_rest(line);
-    let (word, more) = word_and_rest(rest);
-    match (mark, word) {
-        ("$", _) => call::<C, X, L>(scene, rest, told, touches),
-        ("!", "fronts") => call_fronts::<C, X, L>(scene, more, told, touches),
-        ("!", _) => set(scene, rest, told),
-        _ => Ok(()),
-    }
-}
-
-/// Plays these lines of a part, each over what the one before left.
-pub fn play_lines<C: Caller, X: BlockHash, L: Ledger>(
-    scene: &mut Scene<X>,
-    title: &str,
-    lines: &str,
-    sheet: &mut Sheet,
-    touches: &mut Steps<L>,
-) -> Result<(), Memory> {
-    for line in lines.lines() {
-        if begins_row(title, line, sheet)? {
-            step::<C, X, L>(scene, line, &mut sheet.came, touches)?;
+impl<C: Caller, X: BlockHash> Stage<C> for Scene<X> {
+    fn step<L: Ledger>(
+        &mut self,
+        line: &str,
+        told: &mut Block,
+        touches: &mut Steps<L>,
+    ) -> Result<(), Memory> {
+        let (mark, rest) = word_and_rest(line);
+        let (word, more) = word_and_rest(rest);
+        match (mark, word) {
+            ("$", _) => call::<C, X, L>(self, rest, told, touches),
+            ("!", "fronts") => call_fronts::<C, X, L>(self, more, told, touches),
+            ("!", _) => set(self, rest, told),
+            _ => Ok(()),
         }
     }
-    sheet.settle(title)
 }
 
 fn play<P: Player, X: BlockHash, L: Ledger>(
@@ -172,34 +159,20 @@ fn play<P: Player, X: BlockHash, L: Ledger>(
     P::play::<X, L>(&mut scene, title, part, sheet, touches)
 }
 
-// Plays a part, whose first line says by which hash blocks are named.
-fn play_part<P: Player, L: Ledger>(
-    alloc: Global,
-    part: &str,
-    sheet: &mut Sheet,
-    touches: &mut Steps<L>,
-) -> Result<(), Memory> {
-    let title = part.lines().next().unwrap_or("");
-    if title.starts_with("@ sum8") {
-        return play::<P, Sum8Hash, L>(alloc, title, part, sheet, touches);
-    }
-    play::<P, Sha256Hash, L>(alloc, title, part, sheet, touches)
-}
+/// How parts are played by calls: over a scene, in which the hash of the first line names blocks.
+pub struct ByCalls<P>(PhantomData<P>);
 
-/// Plays all parts of a transcript, between which there are empty lines.
-pub fn play_parts<P: Player, L: Ledger>(
-    alloc: Global,
-    script: &str,
-    sheet: &mut Sheet,
-    touches: &mut Steps<L>,
-) -> Result<(), Memory> {
-    let mut is_first = true;
-    for part in script.split("\n\n") {
-        if !is_first {
-            ends_part(sheet)?;
+impl<P: Player> Parts for ByCalls<P> {
+    fn play<L: Ledger>(
+        alloc: Global,
+        title: &str,
+        part: &str,
+        sheet: &mut Sheet,
+        touches: &mut Steps<L>,
+    ) -> Result<(), Memory> {
+        if title.starts_with("@ sum8") {
+            return play::<P, Sum8Hash, L>(alloc, title, part, sheet, touches);
         }
-        is_first = false;
-        play_part::<P, L>(alloc, part, sheet, touches)?;
+        play::<P, Sha256Hash, L>(alloc, title, part, sheet, touches)
     }
-    Ok(())
 }

@@ -8,18 +8,18 @@ use uf_cache::Cached;
 use uf_cid::{Block, BlockHash, Memory};
 use uf_edge::{MemHost, MemSink, MemSource};
 use uf_murmur::NameHash;
-use uf_store::{MemStore, Steps};
-use uf_testing::{Sheet, begins_row, number_of};
+use uf_store::{MemStore, Steps, Store, Sweep};
+use uf_testing::{Sheet, Stage, number_of, play_lines};
 use uf_top::run;
 
-fn act_over<X: BlockHash, N: NameHash, L: Ledger>(
+fn act_over<X: BlockHash, S: Sweep, N: NameHash, L: Ledger>(
     world: &mut World<X>,
-    store: &mut Cached<MemStore<X>>,
+    store: &mut Cached<S>,
     words: &[String],
     ends: &mut Ends,
     touches: &mut Steps<L>,
 ) -> Result<(), Memory> {
-    let status = run::<Cached<MemStore<X>>, N, MemHost, MemSource, MemSink, MemSink, L>(
+    let status = run::<Cached<S>, N, MemHost, MemSource, MemSink, MemSink, L>(
         world.alloc,
         words,
         store,
@@ -33,16 +33,16 @@ fn act_over<X: BlockHash, N: NameHash, L: Ledger>(
 }
 
 // Does a command over the cache, and reports what came of it, but not whether it wrote.
-fn act_cached<X: BlockHash, N: NameHash, L: Ledger>(
+fn act_cached<X: BlockHash, S: Sweep, N: NameHash, L: Ledger>(
     world: &mut World<X>,
-    store: &mut Cached<MemStore<X>>,
+    store: &mut Cached<S>,
     line: &str,
     told: &mut Block,
     touches: &mut Steps<L>,
 ) -> Result<(), Memory> {
     let words = words_in(world.alloc, line)?;
     let mut ends = world.take_ends()?;
-    act_over::<X, N, L>(world, store, &words, &mut ends, touches)?;
+    act_over::<X, S, N, L>(world, store, &words, &mut ends, touches)?;
     world.tell(b"", told)
 }
 
@@ -54,36 +54,29 @@ fn change<X: BlockHash>(world: &mut World<X>, line: &str, told: &mut Block) -> R
     told.extend(b"> no such line\n")
 }
 
-fn step<X: BlockHash, N: NameHash, L: Ledger>(
-    world: &mut World<X>,
-    store: &mut Cached<MemStore<X>>,
-    line: &str,
-    told: &mut Block,
-    touches: &mut Steps<L>,
-) -> Result<(), Memory> {
-    let (mark, rest) = line.split_once(' ').unwrap_or((line, ""));
-    match mark {
-        "$" => act_cached::<X, N, L>(world, store, rest, told, touches),
-        "!" => change(world, rest, told),
-        _ => Ok(()),
-    }
+// A world, and a cache over its store.
+#[derive(Drop)]
+struct OverCache<X: BlockHash, S: Store> {
+    world: World<X>,
+    store: Cached<S>,
 }
 
-// Does lines over a cache.
-fn play_behind<X: BlockHash, N: NameHash, L: Ledger>(
-    world: &mut World<X>,
-    store: &mut Cached<MemStore<X>>,
-    part: (&str, &str),
-    sheet: &mut Sheet,
-    touches: &mut Steps<L>,
-) -> Result<(), Memory> {
-    let (title, lines) = part;
-    for line in lines.lines() {
-        if begins_row(title, line, sheet)? {
-            step::<X, N, L>(world, store, line, &mut sheet.came, touches)?;
+impl<X: BlockHash, S: Sweep, N: NameHash> Stage<N> for OverCache<X, S> {
+    fn step<L: Ledger>(
+        &mut self,
+        line: &str,
+        told: &mut Block,
+        touches: &mut Steps<L>,
+    ) -> Result<(), Memory> {
+        let (mark, rest) = line.split_once(' ').unwrap_or((line, ""));
+        match mark {
+            "$" => {
+                act_cached::<X, S, N, L>(&mut self.world, &mut self.store, rest, told, touches)
+            }
+            "!" => change(&mut self.world, rest, told),
+            _ => Ok(()),
         }
     }
-    sheet.settle(title)
 }
 
 // Puts a cache of this size over the store of a world, and does lines over it.
@@ -95,8 +88,11 @@ fn play_over<X: BlockHash, N: NameHash, L: Ledger>(
     touches: &mut Steps<L>,
 ) -> Result<(), Memory> {
     let below = mem::replace(&mut world.store, MemStore::new(world.alloc));
-    let mut store = Cached::new(world.alloc, below, entries.max(1))?;
-    play_behind::<X, N, L>(world, &mut store, part, sheet, touches)
+    let store = Cached::new(world.alloc, below, entries.max(1))?;
+    let nothing = World::over(world.alloc, MemStore::new(world.alloc));
+    let world = mem::replace(world, nothing);
+    let mut stage = OverCache { world, store };
+    play_lines::<N, OverCache<X, MemStore<X>>, L>(&mut stage, part.0, part.1, sheet, touches)
 }
 
 /// Does the lines after a line `cache N` over a cache of N entries; the number comes first.

@@ -11,7 +11,7 @@ use std::sync::ledger::Ledger;
 use uf_cid::{Block, BlockHash, Memory, Sha256Hash, Sum8Hash, Text};
 use uf_murmur::{FirstEight, Murmur3, NameHash};
 use uf_store::{MemStore, Steps};
-use uf_testing::{Sheet, begins_row, ends_part, number_of};
+use uf_testing::{Parts, Sheet, Stage, number_of, play_lines};
 
 // Asks this of what is left from now on: in the place of all, or after them. Nothing asks nothing.
 fn set_asks<X: BlockHash>(world: &mut World<X>, word: Word, rest: &str) -> Result<(), Memory> {
@@ -92,35 +92,20 @@ fn change<X: BlockHash, N: NameHash, L: Ledger>(
     told.extend(b"> no such line\n")
 }
 
-// Does a line, and reports what comes of it.
-fn step<X: BlockHash, N: NameHash, L: Ledger>(
-    world: &mut World<X>,
-    line: &str,
-    told: &mut Block,
-    touches: &mut Steps<L>,
-) -> Result<(), Memory> {
-    let (mark, rest) = line.split_once(' ').unwrap_or((line, ""));
-    match mark {
-        "$" => act_and_tell::<X, N, L>(world, Way::Command, rest, told, touches),
-        "!" => change::<X, N, L>(world, rest, told, touches),
-        _ => Ok(()),
-    }
-}
-
-// Does lines.
-fn play_lines<X: BlockHash, N: NameHash, L: Ledger>(
-    world: &mut World<X>,
-    title: &str,
-    lines: &str,
-    sheet: &mut Sheet,
-    touches: &mut Steps<L>,
-) -> Result<(), Memory> {
-    for line in lines.lines() {
-        if begins_row(title, line, sheet)? {
-            step::<X, N, L>(world, line, &mut sheet.came, touches)?;
+impl<X: BlockHash, N: NameHash> Stage<N> for World<X> {
+    fn step<L: Ledger>(
+        &mut self,
+        line: &str,
+        told: &mut Block,
+        touches: &mut Steps<L>,
+    ) -> Result<(), Memory> {
+        let (mark, rest) = line.split_once(' ').unwrap_or((line, ""));
+        match mark {
+            "$" => act_and_tell::<X, N, L>(self, Way::Command, rest, told, touches),
+            "!" => change::<X, N, L>(self, rest, told, touches),
+            _ => Ok(()),
         }
     }
-    sheet.settle(title)
 }
 
 // Does the lines of a part: those after a line `cache N` over a cache.
@@ -132,9 +117,9 @@ fn play_over<X: BlockHash, N: NameHash, L: Ledger>(
     touches: &mut Steps<L>,
 ) -> Result<(), Memory> {
     match lines.split_once("\n! cache ") {
-        None => play_lines::<X, N, L>(world, title, lines, sheet, touches),
+        None => play_lines::<N, World<X>, L>(world, title, lines, sheet, touches),
         Some((first, second)) => {
-            play_lines::<X, N, L>(world, title, first, sheet, touches)?;
+            play_lines::<N, World<X>, L>(world, title, first, sheet, touches)?;
             play_cached::<X, N, L>(world, title, second, sheet, touches)
         }
     }
@@ -151,38 +136,25 @@ fn play<X: BlockHash, N: NameHash, L: Ledger>(
     play_over::<X, N, L>(&mut world, title, lines, sheet, touches)
 }
 
-// Does a part, whose first line says of what kind the store is.
-fn play_part<L: Ledger>(
-    alloc: Global,
-    part: &str,
-    sheet: &mut Sheet,
-    touches: &mut Steps<L>,
-) -> Result<(), Memory> {
-    let title = part.lines().next().unwrap_or("");
-    let (kind, _) = title.split_once(':').unwrap_or((title, ""));
-    match kind {
-        "@ sha256 letters" | "@ sha256 letters cached" => {
-            play::<Sha256Hash, FirstEight, L>(alloc, title, part, sheet, touches)
-        }
-        "@ sum8 murmur3" => play::<Sum8Hash, Murmur3, L>(alloc, title, part, sheet, touches),
-        _ => play::<Sha256Hash, Murmur3, L>(alloc, title, part, sheet, touches),
-    }
-}
+/// How parts are played by commands: over a world, of which the first line says by which hashes its store names blocks
+/// and places members.
+pub struct ByCommands;
 
-/// Does all parts, between which there are empty lines.
-pub fn play_all<L: Ledger>(
-    alloc: Global,
-    script: &str,
-    sheet: &mut Sheet,
-    touches: &mut Steps<L>,
-) -> Result<(), Memory> {
-    let mut is_first = true;
-    for part in script.split("\n\n") {
-        if !is_first {
-            ends_part(sheet)?;
+impl Parts for ByCommands {
+    fn play<L: Ledger>(
+        alloc: Global,
+        title: &str,
+        part: &str,
+        sheet: &mut Sheet,
+        touches: &mut Steps<L>,
+    ) -> Result<(), Memory> {
+        let (kind, _) = title.split_once(':').unwrap_or((title, ""));
+        match kind {
+            "@ sha256 letters" | "@ sha256 letters cached" => {
+                play::<Sha256Hash, FirstEight, L>(alloc, title, part, sheet, touches)
+            }
+            "@ sum8 murmur3" => play::<Sum8Hash, Murmur3, L>(alloc, title, part, sheet, touches),
+            _ => play::<Sha256Hash, Murmur3, L>(alloc, title, part, sheet, touches),
         }
-        is_first = false;
-        play_part::<L>(alloc, part, sheet, touches)?;
     }
-    Ok(())
 }

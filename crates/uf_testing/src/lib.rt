@@ -4,6 +4,8 @@
 
 mod feeding;
 mod hosts;
+mod parts;
+mod program;
 mod sheet;
 mod streams;
 mod telling;
@@ -11,7 +13,9 @@ mod words;
 
 pub use feeding::{bytes_of, feed};
 pub use hosts::{is_member, path_of, plant};
-pub use sheet::{Sheet, begins_row, ends_part};
+pub use parts::{Parts, Stage, play_lines};
+pub use program::play_input;
+pub use sheet::Sheet;
 pub use streams::{ROOMY, Streams, block_of, calls, plant_node, sink, source};
 pub use telling::{say, say_digits, tell_bytes, tell_count};
 pub use words::{number_and_rest, number_of, two_numbers_and_rest, word_and_rest, words_of};

@@ -1,7 +1,8 @@
 //! A program that plays a transcript.
 ghost use Rattle.std.specs.Prelude.{◌≡◌, ◌<◌};
 
-use crate::playing::{Player, play_parts};
+use crate::parts::{Parts, play_parts};
+use crate::sheet::Sheet;
 use std::alloc::Global;
 use std::io;
 use std::io::{Input, Print};
@@ -10,10 +11,9 @@ use std::process::ExitCode;
 use std::sync::ledger::{Blank, Ledger};
 use uf_cid::Memory;
 use uf_store::Steps;
-use uf_testing::Sheet;
 
 /// Plays the transcript that is the input, and prints it again. The status is 0 where each row came as it is wanted.
-pub fn play_input<P: Player, R: Input + Print + AllocGlobal>(rt: &R) -> io::Result<ExitCode> {
+pub fn play_input<P: Parts, R: Input + Print + AllocGlobal>(rt: &R) -> io::Result<ExitCode> {
     let mut script = String::new(rt.alloc());
     for line in rt.lines(rt.alloc()) {
         script.push_str(line?.as_str())?;
@@ -27,11 +27,11 @@ pub fn play_input<P: Player, R: Input + Print + AllocGlobal>(rt: &R) -> io::Resu
 }
 
 // What comes of a transcript.
-fn sheet_of<P: Player>(alloc: Global, script: String) -> Result<Sheet, Memory> {
+fn sheet_of<P: Parts>(alloc: Global, script: String) -> Result<Sheet, Memory> {
     sheet_by::<P, Brand>(alloc, script, Blank::new(1))
 }
 
-fn sheet_by<P: Player, L: Ledger>(
+fn sheet_by<P: Parts, L: Ledger>(
     alloc: Global,
     script: String,
     blank: Blank,

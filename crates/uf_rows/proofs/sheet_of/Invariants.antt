@@ -1,4 +1,0 @@
-use Rattle.uf_rows.proofs.sheet_of.Given as goal
-
-abbrev pub ghosts-sheet_by : goal.ghosts-sheet_by
-ghosts-sheet_by a = record { name = a.blank.name; parts = a.blank.parts }
