@@ -205,13 +205,16 @@ def whose_sources(it):
 
 
 def cache(it):
-    """The program of a commit is kept for other clones, by the kit, and four of them at most."""
+    """The program of a commit is kept for other clones, by its sources and the kit, and four of them at most."""
     it.use()
     it.asked()
     it.sh("git clone -q top second")
     it.is_("a second clone", (it.use("second/unixfs")[:2], it.asked()), ((3, b"low 30\n"), []))
     it.sh("rm -r crates/*/out", "second")
     it.is_("it is told", "took the program that was proved before" in it.use("second/unixfs")[2], True)
+    it.sh("echo page > page; git add page; git commit -qm page; git reset -q --hard HEAD", "top")
+    it.sh("git pull -q; rm -r crates/*/out", "second")
+    it.is_("a commit that changes a page alone", (it.use("second/unixfs")[:2], it.asked()), ((3, b"low 30\n"), []))
     it.sh("rm -r crates/*/out", "second")
     it.sh("chmod o+w cache/unixfs/*/unixfs")
     it.is_("a program that others can write isn't taken", (it.use("second/unixfs")[0], it.asked()),

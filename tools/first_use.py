@@ -7,8 +7,9 @@ where the program is not that of the sources.
 
 Each crate that the program needs is proved by prove.py in a folder of its own, which holds the crate, those below it and
 their libraries, so crates that don't need each other are proved side by side. What was proved is moved into the crate's
-out/ at once: a later try goes on from there. The program of a commit with no edit is kept in the user's cache folder, so
-that a second clone starts at once. An interruption ends all that was begun, and leaves no folder.
+out/ at once: a later try goes on from there. The program of a commit with no edit is kept in the user's cache folder under a
+sum of its sources and of the kit. So a second clone starts at once, and so does a commit that changes a page alone. An
+interruption ends all that was begun, and leaves no folder.
 """
 
 import contextlib
@@ -110,23 +111,32 @@ def processor_seconds():
 
 
 class Sources:
-    """The crates that the program needs, copied once, so that an edit meanwhile changes nothing under a proof."""
+    """The crates that the program needs, and a sum of each."""
 
     def __init__(self, kit):
         all_uses = listed()
         self.kit, self.crates = kit, closure(TOOL, all_uses)
+        self.handles = text_of(os.path.join(TOP, "HANDLES")).encode()
         self.uses = {crate: [it for it in all_uses[crate] if it in self.crates] for crate in self.crates}
         self.rows = {crate: f"{crate}: {' '.join(all_uses[crate])}\n" for crate in self.crates}
         self.copy = os.path.join(ROOM, "sources")
+        self.sum_up(os.path.join(TOP, "crates"))
+
+    def sum_up(self, place):
+        """Makes the sums of the crates as they lie in this folder, lowest first."""
         self.sums = {}
         for crate in self.crates:
-            to = os.path.join(self.copy, crate)
-            shutil.copytree(os.path.join(TOP, "crates", crate), to, ignore=LEFT_OUT)
-            self.sums[crate] = self.sum_of(crate, to)
+            self.sums[crate] = self.sum_of(crate, os.path.join(place, crate))
+
+    def take_copy(self):
+        """Copies the crates, so that an edit meanwhile changes nothing under a proof."""
+        for crate in self.crates:
+            shutil.copytree(os.path.join(TOP, "crates", crate), os.path.join(self.copy, crate), ignore=LEFT_OUT)
+        self.sum_up(self.copy)
 
     def sum_of(self, crate, folder):
         """A sum of all that the crate's library is made from."""
-        found = hashlib.sha256(self.kit + self.rows[crate].encode())
+        found = hashlib.sha256(self.kit + self.handles + self.rows[crate].encode())
         for part in PARTS:
             for place, folders, names in os.walk(os.path.join(folder, part)):
                 folders.sort()
@@ -361,11 +371,10 @@ def is_clean(head):
     return len(head) >= 40 and git("status", "--porcelain", "--", "crates", "crates.txt", "HANDLES") == ""
 
 
-def cache_of(head, kit):
-    """The folder in the user's cache for the program of this commit, made with this kit."""
+def cache_of(sources):
+    """The folder in the user's cache for the program of these sources, made with their kit."""
     home = os.environ.get("XDG_CACHE_HOME") or os.path.join(os.path.expanduser("~"), ".cache")
-    name = "".join(letter if letter.isalnum() else "-" for letter in kit.decode("ascii", "replace").strip())
-    return os.path.join(home, "unixfs", f"{head}-{name}")
+    return os.path.join(home, "unixfs", sources.sums[TOOL])
 
 
 def copy_program(one, other):
@@ -419,14 +428,16 @@ def build(head):
     was_clean = is_clean(head)
     shutil.rmtree(ROOM, ignore_errors=True)
     kit = subprocess.run(["rt", "version"], stdin=subprocess.DEVNULL, stdout=subprocess.PIPE, check=True).stdout
-    cache = cache_of(head, kit)
-    if was_clean and take(cache):
-        note(head, begun)
-        say(f"took the program that was proved before from {cache}")
-        return 0
-    put(LOG, "")
     try:
-        work = Work(Sources(kit))
+        sources = Sources(kit)
+        cache = cache_of(sources)
+        if take(cache):
+            note(head, begun)
+            say(f"took the program that was proved before from {cache}")
+            return 0
+        put(LOG, "")
+        sources.take_copy()
+        work = Work(sources)
         if TOOL not in work.done:
             say("proving and building the program")
         failed = work.run()
@@ -437,7 +448,7 @@ def build(head):
         return 1
     note(head, begun)
     if was_clean and is_clean(head):
-        keep(cache)
+        keep(cache_of(sources))
     return 0
 
 
