@@ -2,18 +2,18 @@
 
 use std::alloc::Global;
 use uf_cid::{Block, Memory};
-use uf_edge::{Filled, Intake, MemSource, Sent, fill, read_all, write_all};
+use uf_edge::{Filled, Intake, MemSource, Sent, write_all};
 use uf_lines::{Line, Lines};
 use uf_playing::{failing, say_debug, size_of, source_of};
 use uf_testing::{
     number_and_rest, number_of, say, sink, tell_bytes, tell_count, two_numbers_and_rest,
 };
 
-// Reads all of a source of at most n bytes: `read-all STEP LIMIT CALL`.
-fn read_whole(alloc: Global, bytes: &[u8], rest: &str, told: &mut Block) -> Result<(), Memory> {
+/// Reads all of a source of at most n bytes: `read-all STEP LIMIT CALL`.
+pub fn read_all(alloc: Global, bytes: &[u8], rest: &str, told: &mut Block) -> Result<(), Memory> {
     let (step, limit, rest) = two_numbers_and_rest(rest);
     let mut input = source_of(alloc, bytes, step, number_of(rest))?;
-    match read_all(alloc, &mut input, limit) {
+    match uf_edge::read_all(alloc, &mut input, limit) {
         Ok(got) => tell_bytes(told, alloc, b"> ", got.as_slice()),
         Err(Intake::TooLong) => say(told, "too long"),
         Err(Intake::Failed) => say(told, "failed"),
@@ -21,15 +21,13 @@ fn read_whole(alloc: Global, bytes: &[u8], rest: &str, told: &mut Block) -> Resu
     }
 }
 
-// What is in a buffer of n bytes.
-fn say_filled(
-    alloc: Global,
-    filled: Filled,
-    buffer: &[u8],
-    told: &mut Block,
-) -> Result<(), Memory> {
-    match filled {
-        Filled::Full => tell_bytes(told, alloc, b"> full of ", buffer),
+/// Fills a buffer: `fill STEP SIZE CALL`.
+pub fn fill(alloc: Global, bytes: &[u8], rest: &str, told: &mut Block) -> Result<(), Memory> {
+    let (step, size, rest) = two_numbers_and_rest(rest);
+    let mut input = source_of(alloc, bytes, step, number_of(rest))?;
+    let mut buffer = uf_cid::zeros(alloc, size.min(65536) as usize)?;
+    match uf_edge::fill(&mut input, &mut buffer) {
+        Filled::Full => tell_bytes(told, alloc, b"> full of ", &buffer),
         Filled::Ended(count) => {
             tell_count(told, alloc, count)?;
             tell_bytes(told, alloc, b"> ", &buffer[..count.min(buffer.len())])
@@ -38,17 +36,8 @@ fn say_filled(
     }
 }
 
-// Fills a buffer: `fill STEP SIZE CALL`.
-fn fill_buffer(alloc: Global, bytes: &[u8], rest: &str, told: &mut Block) -> Result<(), Memory> {
-    let (step, size, rest) = two_numbers_and_rest(rest);
-    let mut input = source_of(alloc, bytes, step, number_of(rest))?;
-    let mut buffer = uf_cid::zeros(alloc, size.min(65536) as usize)?;
-    let filled = fill(&mut input, &mut buffer);
-    say_filled(alloc, filled, &buffer, told)
-}
-
-// Writes bytes twice into a sink with ROOM bytes of room: `write-twice ROOM CALL`.
-fn write_twice(alloc: Global, bytes: &[u8], rest: &str, told: &mut Block) -> Result<(), Memory> {
+/// Writes bytes twice into a sink with ROOM bytes of room: `write-twice ROOM CALL`.
+pub fn send_twice(alloc: Global, bytes: &[u8], rest: &str, told: &mut Block) -> Result<(), Memory> {
     let (room, rest) = number_and_rest(rest);
     let mut output = sink(alloc, room.min(65536) as usize, failing(number_of(rest)))?;
     let _ = write_all(&mut output, bytes);
@@ -83,28 +72,10 @@ fn take_lines(
     Ok(())
 }
 
-// The lines of a source: `lines STEP MOST LIMIT CALL`.
-fn read_lines(alloc: Global, bytes: &[u8], rest: &str, told: &mut Block) -> Result<(), Memory> {
+/// The lines of a source: `lines STEP MOST LIMIT CALL`.
+pub fn lines(alloc: Global, bytes: &[u8], rest: &str, told: &mut Block) -> Result<(), Memory> {
     let (step, most, rest) = two_numbers_and_rest(rest);
     let (limit, rest) = number_and_rest(rest);
     let mut input = source_of(alloc, bytes, step, number_of(rest))?;
     take_lines(alloc, size_of(most), limit, &mut input, told)
-}
-
-/// Makes a call on the bytes of the input; whether the word names one of these.
-pub fn call_on(
-    alloc: Global,
-    bytes: &[u8],
-    word: &str,
-    rest: &str,
-    told: &mut Block,
-) -> Result<bool, Memory> {
-    match word {
-        "read-all" => read_whole(alloc, bytes, rest, told)?,
-        "fill" => fill_buffer(alloc, bytes, rest, told)?,
-        "write-twice" => write_twice(alloc, bytes, rest, told)?,
-        "lines" => read_lines(alloc, bytes, rest, told)?,
-        _ => return Ok(false),
-    }
-    Ok(true)
 }

@@ -1,17 +1,16 @@
 //! Calls on the bytes of nodes, messages, names and Heads, and on groups of pieces.
-ghost use Rattle.std.specs.Prelude.{◌≡◌, ◌*◌, ◌<◌, ◌≤◌, ℕ, length, slice_index, IsTrue};
-ghost use Rattle.uf_tree.specs.Profiles.{is_profile};
+ghost use Rattle.std.specs.Prelude.{◌≡◌, ◌*◌, ◌<◌, ◌≤◌, ℕ, length, slice_index};
 
 use sha2::{Digest, Sha256};
 use std::alloc::Global;
-use uf_cid::{Block, BlockHash, Cid, Memory, Sha256Hash, StrictFault};
+use uf_cid::{Block, BlockHash, Memory, Sha256Hash, StrictFault};
 use uf_dagpb::{Node, PbFault};
 use uf_message::Message;
 use uf_playing::{say_amount, say_cid, say_debug, size_of, small};
 use uf_testing::{number_and_rest, number_of, say, tell_bytes, tell_count, two_numbers_and_rest};
 use uf_tree::{
     BadProfile, Head, Name, NameFault, Profile, dir_node, file_node, head_text, read_dir_node,
-    read_file_node, read_head, read_shard_node, shard_node,
+    read_file_node, read_shard_node, shard_node,
 };
 
 fn say_content(alloc: Global, content: &Option<Block>, told: &mut Block) -> Result<(), Memory> {
@@ -31,8 +30,8 @@ fn say_node(alloc: Global, node: &Node, told: &mut Block) -> Result<(), Memory> 
     say_content(alloc, &node.content, told)
 }
 
-// Reads a node as others may have written it: says what it has, or at `links` only how many links.
-fn read_node(alloc: Global, word: &str, bytes: &[u8], told: &mut Block) -> Result<(), Memory> {
+/// Reads a node as others may have written it: says what it has, or at `links` only how many links.
+pub fn read_node(alloc: Global, word: &str, bytes: &[u8], told: &mut Block) -> Result<(), Memory> {
     match uf_dagpb::decode_lenient(alloc, bytes) {
         Ok(node) if word == "links" => tell_count(told, alloc, node.links.len()),
         Ok(node) => say_node(alloc, &node, told),
@@ -40,39 +39,43 @@ fn read_node(alloc: Global, word: &str, bytes: &[u8], told: &mut Block) -> Resul
     }
 }
 
-// Reads a node strictly, and writes it again: whether the bytes and their number are the same.
-fn node_again(alloc: Global, bytes: &[u8]) -> Result<bool, StrictFault> {
+/// Reads a node strictly, and writes it again: whether the bytes and their number are the same.
+pub fn node_again(alloc: Global, bytes: &[u8]) -> Result<bool, StrictFault> {
     let node = uf_dagpb::decode_strict(alloc, bytes)?;
     let spelled = uf_dagpb::encode(alloc, &node)?;
     Ok(uf_dagpb::encoded_len(&node) == bytes.len() && spelled.as_slice() == bytes)
 }
 
-fn message_again(alloc: Global, bytes: &[u8]) -> Result<bool, StrictFault> {
+/// The same of a message.
+pub fn message_again(alloc: Global, bytes: &[u8]) -> Result<bool, StrictFault> {
     let message = uf_message::decode_strict(alloc, bytes)?;
     let spelled = uf_message::encode(alloc, &message)?;
     Ok(spelled.as_slice() == bytes)
 }
 
-fn file_again(alloc: Global, bytes: &[u8]) -> Result<bool, StrictFault> {
+/// The same of the node of a file.
+pub fn file_again(alloc: Global, bytes: &[u8]) -> Result<bool, StrictFault> {
     let node = read_file_node(alloc, bytes)?;
     let spelled = file_node(alloc, &node)?;
     Ok(spelled.as_slice() == bytes)
 }
 
-fn dir_again(alloc: Global, bytes: &[u8]) -> Result<bool, StrictFault> {
+/// The same of the node of a directory.
+pub fn dir_again(alloc: Global, bytes: &[u8]) -> Result<bool, StrictFault> {
     let node = read_dir_node(alloc, bytes)?;
     let spelled = dir_node(alloc, &node)?;
     Ok(spelled.as_slice() == bytes)
 }
 
-fn shard_again(alloc: Global, bytes: &[u8]) -> Result<bool, StrictFault> {
+/// The same of the node of a directory in shards.
+pub fn shard_again(alloc: Global, bytes: &[u8]) -> Result<bool, StrictFault> {
     let node = read_shard_node(alloc, bytes)?;
     let spelled = shard_node(alloc, &node)?;
     Ok(spelled.as_slice() == bytes)
 }
 
-// Says whether a block is written again as it was read.
-fn say_again(told: &mut Block, again: Result<bool, StrictFault>) -> Result<(), Memory> {
+/// Says whether a block is written again as it was read.
+pub fn say_again(told: &mut Block, again: Result<bool, StrictFault>) -> Result<(), Memory> {
     match again {
         Ok(true) => say(told, "the same"),
         Ok(false) => say(told, "another"),
@@ -109,7 +112,8 @@ fn are_sound(alloc: Global, bytes: &[u8]) -> Result<bool, Memory> {
     Ok(sound)
 }
 
-fn say_sound(alloc: Global, bytes: &[u8], told: &mut Block) -> Result<(), Memory> {
+/// Says whether that holds.
+pub fn say_sound(alloc: Global, bytes: &[u8], told: &mut Block) -> Result<(), Memory> {
     let sound = are_sound(alloc, bytes)?;
     say(told, if sound { "sound" } else { "not sound" })
 }
@@ -132,8 +136,8 @@ fn say_message(alloc: Global, message: &Message, told: &mut Block) -> Result<(),
     say_content(alloc, &message.content, told)
 }
 
-// Reads a message as others may have written it.
-fn read_message(alloc: Global, bytes: &[u8], told: &mut Block) -> Result<(), Memory> {
+/// Reads a message as others may have written it.
+pub fn read_message(alloc: Global, bytes: &[u8], told: &mut Block) -> Result<(), Memory> {
     match uf_message::decode_lenient(alloc, bytes) {
         Ok(message) => say_message(alloc, &message, told),
         Err(fault) => say_debug(alloc, told, &fault),
@@ -149,7 +153,8 @@ fn is_name(alloc: Global, text: &str) -> Result<bool, NameFault> {
     }
 }
 
-fn read_name(alloc: Global, bytes: &[u8], told: &mut Block) -> Result<(), Memory> {
+/// Reads bytes as a name.
+pub fn read_name(alloc: Global, bytes: &[u8], told: &mut Block) -> Result<(), Memory> {
     let text = str::from_utf8(bytes).unwrap_or("");
     match is_name(alloc, text) {
         Ok(true) => say(told, "a name"),
@@ -165,7 +170,8 @@ fn profile_of(rest: &str) -> Result<Profile, BadProfile> {
     Profile::new(small(chunk), small(width), small(number_of(rest)))
 }
 
-fn read_profile(rest: &str, told: &mut Block) -> Result<(), Memory> {
+/// Reads a profile: `profile CHUNK WIDTH THRESHOLD`.
+pub fn read_profile(rest: &str, told: &mut Block) -> Result<(), Memory> {
     match profile_of(rest) {
         Ok(p) if p == Profile::usual() => say(told, "the usual profile"),
         Ok(_) => say(told, "a profile"),
@@ -173,30 +179,15 @@ fn read_profile(rest: &str, told: &mut Block) -> Result<(), Memory> {
     }
 }
 
-// Reads a Head, and writes it as the newest version has it.
-fn read_and_write_head(alloc: Global, bytes: &[u8], told: &mut Block) -> Result<(), Memory> {
-    match read_head(alloc, bytes) {
-        Ok(head) => write_head(alloc, &head, told),
-        Err(fault) => say_debug(alloc, told, &fault),
-    }
-}
-
-fn write_head(alloc: Global, head: &Head, told: &mut Block) -> Result<(), Memory> {
-    let (chunk, width) = (head.profile.chunk, head.profile.width);
-    match Profile::new(chunk, width, head.profile.threshold) {
-        Ok(profile) => write_good_head(alloc, profile, head.root, told),
-        Err(BadProfile) => say(told, "no profile"),
-    }
-}
-
-fn write_good_head(
-    alloc: Global,
-    profile: Profile,
-    root: Cid,
-    told: &mut Block,
-) -> Result<(), Memory>
-    requires { IsTrue (is_profile profile) }
-{
+/// Reads a Head, and writes it as the newest version has it.
+pub fn read_head(alloc: Global, bytes: &[u8], told: &mut Block) -> Result<(), Memory> {
+    let Head { profile: p, root } = match uf_tree::read_head(alloc, bytes) {
+        Ok(head) => head,
+        Err(fault) => return say_debug(alloc, told, &fault),
+    };
+    let Ok(profile) = Profile::new(p.chunk, p.width, p.threshold) else {
+        return say(told, "no profile");
+    };
     let text = head_text(alloc, &Head { profile, root })?;
     tell_bytes(told, alloc, b"> ", text.as_slice())
 }
@@ -215,19 +206,16 @@ fn agree(bytes: &[u8], size: usize, out: &mut [[u8; 32]]) -> bool
     true
 }
 
-// Pieces of one size, of which there may be seventeen.
-fn say_group(bytes: &[u8], size: usize, count: usize, told: &mut Block) -> Result<(), Memory> {
+/// Hashes pieces of the input of one size, of which there may be seventeen: `group SIZE COUNT`.
+pub fn hash_group(bytes: &[u8], rest: &str, told: &mut Block) -> Result<(), Memory> {
+    let (size, count) = number_and_rest(rest);
+    let (size, count) = (size_of(size), size_of(number_of(count)));
     let mut digests = [[0u8; 32]; 17];
     if count > 17 || size > 1048576 || bytes.len() < count * size {
         return say(told, "too few bytes");
     }
     let is_so = agree(&bytes[..count * size], size, &mut digests[..count]);
     say(told, if is_so { "agree" } else { "differ" })
-}
-
-fn hash_group(bytes: &[u8], rest: &str, told: &mut Block) -> Result<(), Memory> {
-    let (size, count) = number_and_rest(rest);
-    say_group(bytes, size_of(size), size_of(number_of(count)), told)
 }
 
 // Seventeen lengths, each so much more than the one before it, up to 184 and then from 0 on.
@@ -260,70 +248,18 @@ fn agree_apart(bytes: &mut [u8], lengths: &[usize], out: &mut [[u8; 32]]) -> boo
     true
 }
 
-// Blocks of unlike lengths, of which there may be seventeen.
-fn say_apart(
-    input: &[u8],
-    first: usize,
-    step: usize,
-    count: usize,
-    told: &mut Block,
-) -> Result<(), Memory> {
+/// Hashes blocks of the input of unlike lengths, of which there may be seventeen: `apart FIRST STEP COUNT`.
+pub fn hash_apart(input: &[u8], rest: &str, told: &mut Block) -> Result<(), Memory> {
+    let (first, step, rest) = two_numbers_and_rest(rest);
+    let count = size_of(number_of(rest));
     if count > 17 || input.len() < 4352 {
         return say(told, "too few bytes");
     }
     let mut bytes = [0u8; 4352];
     bytes.copy_from_slice(&input[..4352]);
     let mut digests = [[0u8; 32]; 17];
-    let lengths = lengths_from(first, step);
-    let is_so = agree_apart(
-        &mut bytes[..count * 256],
-        &lengths[..count],
-        &mut digests[..count],
-    );
+    let lengths = lengths_from(size_of(first), size_of(step));
+    let (pieces, out) = (&mut bytes[..count * 256], &mut digests[..count]);
+    let is_so = agree_apart(pieces, &lengths[..count], out);
     say(told, if is_so { "agree" } else { "differ" })
-}
-
-fn hash_apart(bytes: &[u8], rest: &str, told: &mut Block) -> Result<(), Memory> {
-    let (first, step, rest) = two_numbers_and_rest(rest);
-    let count = number_of(rest);
-    say_apart(bytes, size_of(first), size_of(step), size_of(count), told)
-}
-
-// Blocks that are read and written again.
-fn again(alloc: Global, word: &str, bytes: &[u8]) -> Option<Result<bool, StrictFault>> {
-    match word {
-        "node-again" => Some(node_again(alloc, bytes)),
-        "message-again" => Some(message_again(alloc, bytes)),
-        "file-again" => Some(file_again(alloc, bytes)),
-        "directory-again" => Some(dir_again(alloc, bytes)),
-        "shard-again" => Some(shard_again(alloc, bytes)),
-        _ => None,
-    }
-}
-
-/// Makes a call on bytes; whether the word names one of these.
-pub fn call_on(alloc: Global, word: &str, bytes: &[u8], told: &mut Block) -> Result<bool, Memory> {
-    match word {
-        "node" | "links" => read_node(alloc, word, bytes, told)?,
-        "node-changed" => say_sound(alloc, bytes, told)?,
-        "message" => read_message(alloc, bytes, told)?,
-        "name" => read_name(alloc, bytes, told)?,
-        "head" => read_and_write_head(alloc, bytes, told)?,
-        _ => match again(alloc, word, bytes) {
-            Some(answer) => say_again(told, answer)?,
-            None => return Ok(false),
-        },
-    }
-    Ok(true)
-}
-
-/// Makes a call that takes numbers; whether the word names one of these.
-pub fn call(input: &[u8], word: &str, rest: &str, told: &mut Block) -> Result<bool, Memory> {
-    match word {
-        "profile" => read_profile(rest, told)?,
-        "group" => hash_group(input, rest, told)?,
-        "apart" => hash_apart(input, rest, told)?,
-        _ => return Ok(false),
-    }
-    Ok(true)
 }

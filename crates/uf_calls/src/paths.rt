@@ -32,36 +32,27 @@ fn say_dag_path(told: &mut Block, path: &DagPath) -> Result<(), Memory> {
     say_names(told, &path.names)
 }
 
-fn read_path(alloc: Global, text: &str, told: &mut Block) -> Result<(), Memory> {
+/// Reads a text as a path in the tree.
+pub fn read_path(alloc: Global, text: &str, told: &mut Block) -> Result<(), Memory> {
     match Path::parse(alloc, text) {
         Ok(path) => say_path(told, &path),
         Err(fault) => say_debug(alloc, told, &fault),
     }
 }
 
-fn read_dag_path(alloc: Global, text: &str, told: &mut Block) -> Result<(), Memory> {
+/// Reads a text as a path from a CID on.
+pub fn read_dag_path(alloc: Global, text: &str, told: &mut Block) -> Result<(), Memory> {
     match DagPath::parse(alloc, text) {
         Ok(path) => say_dag_path(told, &path),
         Err(fault) => say_debug(alloc, told, &fault),
     }
 }
 
-fn read_target(alloc: Global, text: &str, told: &mut Block) -> Result<(), Memory> {
+/// Reads a text as a path of either kind.
+pub fn read_target(alloc: Global, text: &str, told: &mut Block) -> Result<(), Memory> {
     match Target::parse(alloc, text) {
         Ok(Target::Tree(path)) => say_path(told, &path),
         Ok(Target::Dag(path)) => say_dag_path(told, &path),
         Err(fault) => say_debug(alloc, told, &fault),
     }
-}
-
-/// Reads the input as a path; whether the word names such a call.
-pub fn call(alloc: Global, input: &[u8], word: &str, told: &mut Block) -> Result<bool, Memory> {
-    let text = str::from_utf8(input).unwrap_or("");
-    match word {
-        "path" => read_path(alloc, text, told)?,
-        "dag-path" => read_dag_path(alloc, text, told)?,
-        "target" => read_target(alloc, text, told)?,
-        _ => return Ok(false),
-    }
-    Ok(true)
 }

@@ -3,10 +3,9 @@
 use std::alloc::Global;
 use std::sync::ledger::Ledger;
 use uf_cid::{Block, BlockHash, Cids, Memory};
-use uf_pins::{PinFault, add_pin, collect, list_pins, read_pins, remove_pin};
-use uf_playing::{cid_in, say_about, say_amount, say_cids, say_debug, say_fault, small};
-use uf_store::{MemStore, Steps};
-use uf_testing::{number_and_rest, say, word_and_rest};
+use uf_pins::{PinFault, add_pin, list_pins, read_pins, remove_pin};
+use uf_playing::{Call, cid_in, say_about, say_amount, say_cids, say_debug, say_fault, small};
+use uf_testing::{number_and_rest, say};
 
 // The most CIDs of a collection.
 const MOST: u32 = 16777216;
@@ -33,64 +32,38 @@ fn say_done(alloc: Global, answer: &Result<(), PinFault>, told: &mut Block) -> R
     }
 }
 
-// Pins a block: `pin MOST CODEC BYTES`.
-fn pin<X: BlockHash, L: Ledger>(
-    alloc: Global,
-    store: &mut MemStore<X>,
-    rest: &str,
-    told: &mut Block,
-    touches: &mut Steps<L>,
-) -> Result<(), Memory> {
+/// Pins a block: `pin MOST CODEC BYTES`.
+pub fn pin<X: BlockHash, L: Ledger>(call: &mut Call<X, L>, rest: &str) -> Result<(), Memory> {
     let (most, rest) = number_and_rest(rest);
-    let cid = cid_in::<X>(alloc, rest)?;
-    let answer = add_pin(alloc, store, &cid, small(most), touches);
-    say_done(alloc, &answer, told)
+    let cid = cid_in::<X>(call.alloc, rest)?;
+    let answer = add_pin(call.alloc, call.store, &cid, small(most), call.touches);
+    say_done(call.alloc, &answer, call.told)
 }
 
-// Pins a block no more: `unpin CODEC BYTES`.
-fn unpin<X: BlockHash>(
-    alloc: Global,
-    store: &mut MemStore<X>,
-    rest: &str,
-    told: &mut Block,
-) -> Result<(), Memory> {
-    let cid = cid_in::<X>(alloc, rest)?;
-    let answer = remove_pin(alloc, store, &cid);
-    say_done(alloc, &answer, told)
+/// Pins a block no more: `unpin CODEC BYTES`.
+pub fn unpin<X: BlockHash, L: Ledger>(call: &mut Call<X, L>, rest: &str) -> Result<(), Memory> {
+    let cid = cid_in::<X>(call.alloc, rest)?;
+    let answer = remove_pin(call.alloc, call.store, &cid);
+    say_done(call.alloc, &answer, call.told)
 }
 
-fn list<X: BlockHash>(
-    alloc: Global,
-    store: &mut MemStore<X>,
-    told: &mut Block,
-) -> Result<(), Memory> {
-    match list_pins(alloc, store) {
-        Ok(cids) => say_cids(told, &cids),
-        Err(fault) => say_pin_fault(alloc, &fault, told),
+/// All pins: `list-pins`.
+pub fn list<X: BlockHash, L: Ledger>(call: &mut Call<X, L>) -> Result<(), Memory> {
+    match list_pins(call.alloc, call.store) {
+        Ok(cids) => say_cids(call.told, &cids),
+        Err(fault) => say_pin_fault(call.alloc, &fault, call.told),
     }
 }
 
-// The one root of a collection, or none.
-fn roots_of<X: BlockHash>(alloc: Global, rest: &str) -> Result<Cids, Memory> {
-    let mut roots = Cids::new(alloc);
+/// Lets go of what neither a root nor a pin leads to: `collect`, or `collect CODEC BYTES`.
+pub fn collect<X: BlockHash, L: Ledger>(call: &mut Call<X, L>, rest: &str) -> Result<(), Memory> {
+    let mut roots = Cids::new(call.alloc);
     if !rest.is_empty() {
-        roots.push(cid_in::<X>(alloc, rest)?)?;
+        roots.push(cid_in::<X>(call.alloc, rest)?)?;
     }
-    Ok(roots)
-}
-
-// Lets go of what neither a root nor a pin leads to: `collect`, or `collect CODEC BYTES`.
-fn collect_all<X: BlockHash, L: Ledger>(
-    alloc: Global,
-    store: &mut MemStore<X>,
-    rest: &str,
-    told: &mut Block,
-    touches: &mut Steps<L>,
-) -> Result<(), Memory> {
-    let roots = roots_of::<X>(alloc, rest)?;
-    match collect(alloc, store, &roots, MOST, touches) {
-        Ok(count) => say_amount(alloc, told, count, "went"),
-        Err(fault) => say_pin_fault(alloc, &fault, told),
+    match uf_pins::collect(call.alloc, call.store, &roots, MOST, call.touches) {
+        Ok(count) => say_amount(call.alloc, call.told, count, "went"),
+        Err(fault) => say_pin_fault(call.alloc, &fault, call.told),
     }
 }
 
@@ -100,23 +73,4 @@ pub fn read(alloc: Global, bytes: &[u8], told: &mut Block) -> Result<(), Memory>
         Ok(cids) => say_cids(told, &cids),
         Err(fault) => say_debug(alloc, told, &fault),
     }
-}
-
-/// Makes a call; whether the word names one of these.
-pub fn call<X: BlockHash, L: Ledger>(
-    alloc: Global,
-    store: &mut MemStore<X>,
-    line: &str,
-    told: &mut Block,
-    touches: &mut Steps<L>,
-) -> Result<bool, Memory> {
-    let (word, rest) = word_and_rest(line);
-    match word {
-        "pin" => pin(alloc, store, rest, told, touches)?,
-        "unpin" => unpin(alloc, store, rest, told)?,
-        "list-pins" => list(alloc, store, told)?,
-        "collect" => collect_all(alloc, store, rest, told, touches)?,
-        _ => return Ok(false),
-    }
-    Ok(true)
 }

@@ -122,55 +122,26 @@ fn say_met(alloc: Global, walk: &Walk, place: u32, told: &mut Block) -> Result<(
     }
 }
 
-// Says what a walk handed out, by the first bytes of the digests and by its places, and how it ended.
-fn say_walked(
-    alloc: Global,
-    walk: &Walk,
-    numbers: &[u8],
-    ending: Ending,
-    told: &mut Block,
-) -> Result<(), Memory> {
-    say_debug(alloc, told, &numbers)?;
+// Goes on with a walk, and says what it handed out, by the first bytes of the digests and by its places, and how it
+// ended.
+fn follow(alloc: Global, walk: &mut Walk, told: &mut Block) -> Result<(), Memory>
+    requires { walk.old.due ≡ None }
+{
+    let mut numbers = Numbers::new(alloc);
+    let ending = finish(alloc, walk, &mut numbers)?;
+    say_debug(alloc, told, &numbers.as_slice())?;
     for place in 0..small(numbers.len() as u64).saturating_add(1) {
         say_met(alloc, walk, place, told)?;
     }
     say_ending(alloc, ending, told)
 }
 
-// Goes on with a walk, and says what came of it.
-fn follow(alloc: Global, walk: &mut Walk, told: &mut Block) -> Result<(), Memory>
-    requires { walk.old.due ≡ None }
-{
-    let mut numbers = Numbers::new(alloc);
-    let ending = finish(alloc, walk, &mut numbers)?;
-    say_walked(alloc, walk, numbers.as_slice(), ending, told)
-}
-
-fn walk_one(alloc: Global, most: u32, root: &Cid, told: &mut Block) -> Result<(), Memory> {
-    let mut walk = Walk::new(alloc, most);
-    walk.add_root(root)?;
-    follow(alloc, &mut walk, told)
-}
-
-fn walk_two(
-    alloc: Global,
-    most: u32,
-    first: &Cid,
-    second: &Cid,
-    told: &mut Block,
-) -> Result<(), Memory> {
-    let mut walk = Walk::new(alloc, most);
-    walk.add_root(first)?;
-    walk.add_root(second)?;
-    follow(alloc, &mut walk, told)
-}
-
-/// A walk of at most MOST CIDs from one root or two: `walk MOST ROOT ROOT`.
+/// A walk of at most MOST CIDs from some roots: `walk MOST ROOT ..`.
 pub fn walk(alloc: Global, rest: &str, told: &mut Block) -> Result<(), Memory> {
     let (most, roots) = number_and_rest(rest);
-    let most = small(most);
-    match roots.split_once(' ') {
-        Some((first, second)) => { walk_two(alloc, most, &cid_of(first), &cid_of(second), told) }
-        None => walk_one(alloc, most, &cid_of(roots), told),
+    let mut walk = Walk::new(alloc, small(most));
+    for root in roots.split(' ') {
+        walk.add_root(&cid_of(root))?;
     }
+    follow(alloc, &mut walk, told)
 }

@@ -2,13 +2,13 @@
 
 use std::alloc::Global;
 use std::sync::ledger::Ledger;
-use uf_car::{CarFault, ExportFault, export, import};
+use uf_car::{CarFault, ExportFault};
 use uf_cid::{Block, BlockHash, Memory};
 use uf_edge::{MemSink, MemSource};
-use uf_playing::{Scene, cid_in, cid_of, say_fault, say_number, small, source_of};
-use uf_pull::{PullFault, ServeFault, pull, serve};
-use uf_same::{Compared, SameFault, same};
-use uf_store::{Steps, StoreFault};
+use uf_playing::{Call, cid_in, cid_of, say_fault, say_number, small, source_of};
+use uf_pull::{PullFault, ServeFault};
+use uf_same::{Compared, SameFault};
+use uf_store::StoreFault;
 use uf_testing::{number_and_rest, number_of, say, sink, tell_bytes, two_numbers_and_rest};
 
 fn say_car_fault(alloc: Global, fault: &CarFault, told: &mut Block) -> Result<(), Memory> {
@@ -27,77 +27,52 @@ fn say_car_fault(alloc: Global, fault: &CarFault, told: &mut Block) -> Result<()
     }
 }
 
-// Reads a CAR of at most n bytes: `import STEP LIMIT` on the input.
-fn read_car<X: BlockHash, L: Ledger>(
-    scene: &mut Scene<X>,
-    rest: &str,
-    told: &mut Block,
-    touches: &mut Steps<L>,
-) -> Result<(), Memory> {
+/// Reads a CAR of at most n bytes: `import STEP LIMIT` on the input.
+pub fn import<X: BlockHash, L: Ledger>(call: &mut Call<X, L>, rest: &str) -> Result<(), Memory> {
     let (step, limit, _) = two_numbers_and_rest(rest);
-    let mut source = source_of(scene.alloc, scene.input.as_slice(), step, 0)?;
-    match import(scene.alloc, &mut scene.store, &mut source, limit, touches) {
+    let mut source = source_of(call.alloc, call.input.as_slice(), step, 0)?;
+    match uf_car::import(call.alloc, call.store, &mut source, limit, call.touches) {
         Ok(imported) => {
             let count = imported.roots.len();
-            let line = format!(in scene.alloc; "{count} roots, {} blocks", imported.blocks)?;
-            say(told, line.as_str())
+            let line = format!(in call.alloc; "{count} roots, {} blocks", imported.blocks)?;
+            say(call.told, line.as_str())
         }
-        Err(fault) => say_car_fault(scene.alloc, &fault, told),
+        Err(fault) => say_car_fault(call.alloc, &fault, call.told),
     }
 }
 
-fn say_export(
-    alloc: Global,
-    answer: &Result<u64, ExportFault>,
-    told: &mut Block,
-) -> Result<(), Memory> {
-    match answer {
-        Ok(count) => say_number(alloc, told, "bytes:", *count),
-        Err(ExportFault::Sink) => say(told, "output"),
-        Err(ExportFault::NotDagPb(_, why)) => say_number(alloc, told, "no node:", u64::from(*why)),
-        Err(ExportFault::TooMany) => say(told, "too many"),
-        Err(ExportFault::Store(fault)) => say_fault(alloc, fault, told),
+fn say_export_fault(alloc: Global, fault: &ExportFault, told: &mut Block) -> Result<(), Memory> {
+    match fault {
+        ExportFault::Sink => say(told, "output"),
+        ExportFault::NotDagPb(_, why) => say_number(alloc, told, "no node:", u64::from(*why)),
+        ExportFault::TooMany => say(told, "too many"),
+        ExportFault::Store(fault) => say_fault(alloc, fault, told),
     }
 }
 
-// Writes the CAR below a CID of at most MOST CIDs, into ROOM bytes of room: `export MOST ROOM CID`.
-fn write_car<X: BlockHash, L: Ledger>(
-    scene: &mut Scene<X>,
-    rest: &str,
-    told: &mut Block,
-    touches: &mut Steps<L>,
-) -> Result<(), Memory> {
+/// Writes the CAR below a CID of at most MOST CIDs, into ROOM bytes of room: `export MOST ROOM CID`.
+pub fn export<X: BlockHash, L: Ledger>(call: &mut Call<X, L>, rest: &str) -> Result<(), Memory> {
     let (most, room, text) = two_numbers_and_rest(rest);
-    let mut output = sink(scene.alloc, room.min(1048576) as usize, None)?;
-    let cid = cid_of(text);
-    let answer = export(
-        scene.alloc,
-        &mut scene.store,
-        &cid,
-        small(most),
-        &mut output,
-        touches,
-    );
-    say_export(scene.alloc, &answer, told)?;
-    tell_bytes(told, scene.alloc, b"> ", output.bytes())
+    let (alloc, cid, most) = (call.alloc, cid_of(text), small(most));
+    let mut output = sink(alloc, room.min(1048576) as usize, None)?;
+    match uf_car::export(alloc, call.store, &cid, most, &mut output, call.touches) {
+        Ok(count) => say_number(alloc, call.told, "bytes:", count)?,
+        Err(fault) => say_export_fault(alloc, &fault, call.told)?,
+    }
+    tell_bytes(call.told, alloc, b"> ", output.bytes())
 }
 
-fn say_pull(
-    alloc: Global,
-    answer: &Result<u64, PullFault>,
-    told: &mut Block,
-) -> Result<(), Memory> {
-    match answer {
-        Ok(count) => say_number(alloc, told, "blocks:", *count),
-        Err(PullFault::Lacks(_)) => say(told, "the peer lacks it"),
-        Err(PullFault::Ended(_)) => say(told, "ended"),
-        Err(PullFault::Bad(place)) => say_number(alloc, told, "bad frame at", *place),
-        Err(PullFault::Noise) => say(told, "noise"),
-        Err(PullFault::NotDagPb(_, why)) => say_number(alloc, told, "no node:", u64::from(*why)),
-        Err(PullFault::TooMany) => say(told, "too many"),
-        Err(PullFault::Read) => say(told, "failed"),
-        Err(PullFault::Sink) => say(told, "output"),
-        Err(PullFault::Store(fault)) => say_fault(alloc, fault, told),
+fn say_pull_fault(alloc: Global, fault: &PullFault, told: &mut Block) -> Result<(), Memory> {
+    match fault {
+        PullFault::Lacks(_) => say(told, "the peer lacks it"),
+        PullFault::Ended(_) => say(told, "ended"),
+        PullFault::Bad(place) => say_number(alloc, told, "bad frame at", *place),
+        PullFault::Noise => say(told, "noise"),
+        PullFault::NotDagPb(_, why) => say_number(alloc, told, "no node:", u64::from(*why)),
+        PullFault::TooMany => say(told, "too many"),
+        PullFault::Read => say(told, "failed"),
+        PullFault::Sink => say(told, "output"),
+        PullFault::Store(fault) => say_fault(alloc, fault, told),
     }
 }
 
@@ -108,64 +83,39 @@ fn ends_of(alloc: Global, input: &[u8]) -> Result<(MemSource, MemSink), Memory> 
     Ok((source, output))
 }
 
-// Pulls what is below a CID of what the input answers: `pull MOST CID`.
-fn pull_from<X: BlockHash, L: Ledger>(
-    scene: &mut Scene<X>,
-    rest: &str,
-    told: &mut Block,
-    touches: &mut Steps<L>,
-) -> Result<(), Memory> {
+/// Pulls what is below a CID of what the input answers: `pull MOST CID`.
+pub fn pull<X: BlockHash, L: Ledger>(call: &mut Call<X, L>, rest: &str) -> Result<(), Memory> {
     let (most, text) = number_and_rest(rest);
-    let cid = cid_of(text);
-    let (mut source, mut output) = ends_of(scene.alloc, scene.input.as_slice())?;
-    let answer = pull(
-        scene.alloc,
-        &mut scene.store,
-        &cid,
-        small(most),
-        &mut source,
-        &mut output,
-        touches,
-    );
-    say_pull(scene.alloc, &answer, told)?;
-    tell_bytes(told, scene.alloc, b"> ", output.bytes())
+    let (alloc, cid, most) = (call.alloc, cid_of(text), small(most));
+    let (mut peer, mut sent) = ends_of(alloc, call.input.as_slice())?;
+    let (store, touches) = (&mut *call.store, &mut *call.touches);
+    match uf_pull::pull(alloc, store, &cid, most, &mut peer, &mut sent, touches) {
+        Ok(count) => say_number(alloc, call.told, "blocks:", count)?,
+        Err(fault) => say_pull_fault(alloc, &fault, call.told)?,
+    }
+    tell_bytes(call.told, alloc, b"> ", sent.bytes())
 }
 
-fn say_serve(
-    alloc: Global,
-    answer: &Result<u64, ServeFault>,
-    told: &mut Block,
-) -> Result<(), Memory> {
-    match answer {
-        Ok(count) => say_number(alloc, told, "lines:", *count),
-        Err(ServeFault::BadWant(line)) => say_number(alloc, told, "bad want at", *line),
-        Err(ServeFault::TooLong) => say(told, "too long"),
-        Err(ServeFault::Read) => say(told, "failed"),
-        Err(ServeFault::Sink) => say(told, "output"),
-        Err(ServeFault::Store(fault)) => say_fault(alloc, fault, told),
+fn say_serve_fault(alloc: Global, fault: &ServeFault, told: &mut Block) -> Result<(), Memory> {
+    match fault {
+        ServeFault::BadWant(line) => say_number(alloc, told, "bad want at", *line),
+        ServeFault::TooLong => say(told, "too long"),
+        ServeFault::Read => say(told, "failed"),
+        ServeFault::Sink => say(told, "output"),
+        ServeFault::Store(fault) => say_fault(alloc, fault, told),
     }
 }
 
-// Answers the lines of the input, of at most n bytes: `serve LIMIT`. The answers are the next input.
-fn serve_to<X: BlockHash, L: Ledger>(
-    scene: &mut Scene<X>,
-    rest: &str,
-    told: &mut Block,
-    touches: &mut Steps<L>,
-) -> Result<(), Memory> {
-    let (mut source, mut output) = ends_of(scene.alloc, scene.input.as_slice())?;
-    let limit = number_of(rest);
-    let answer = serve(
-        scene.alloc,
-        &mut scene.store,
-        limit,
-        &mut source,
-        &mut output,
-        touches,
-    );
-    say_serve(scene.alloc, &answer, told)?;
-    scene.input = Block::from_slice(scene.alloc, output.bytes())?;
-    tell_bytes(told, scene.alloc, b"> ", output.bytes())
+/// Answers the lines of the input, of at most n bytes: `serve LIMIT`. The answers are the next input.
+pub fn serve<X: BlockHash, L: Ledger>(call: &mut Call<X, L>, rest: &str) -> Result<(), Memory> {
+    let (alloc, limit) = (call.alloc, number_of(rest));
+    let (mut peer, mut sent) = ends_of(alloc, call.input.as_slice())?;
+    match uf_pull::serve(alloc, call.store, limit, &mut peer, &mut sent, call.touches) {
+        Ok(count) => say_number(alloc, call.told, "lines:", count)?,
+        Err(fault) => say_serve_fault(alloc, &fault, call.told)?,
+    }
+    *call.input = Block::from_slice(alloc, sent.bytes())?;
+    tell_bytes(call.told, alloc, b"> ", sent.bytes())
 }
 
 fn say_compared(alloc: Global, found: &Compared, told: &mut Block) -> Result<(), Memory> {
@@ -192,40 +142,16 @@ fn say_same_fault(alloc: Global, fault: &SameFault, told: &mut Block) -> Result<
     }
 }
 
-// Compares the two stores below two CIDs, of at most MOST CIDs: `same MOST CODEC BYTES and CODEC BYTES`.
-fn compare<X: BlockHash, L: Ledger>(
-    scene: &mut Scene<X>,
-    rest: &str,
-    told: &mut Block,
-    touches: &mut Steps<L>,
-) -> Result<(), Memory> {
-    let alloc = scene.alloc;
+/// Compares the two stores below two CIDs, of at most MOST CIDs: `same MOST CODEC BYTES and CODEC BYTES`.
+pub fn same<X: BlockHash, L: Ledger>(call: &mut Call<X, L>, rest: &str) -> Result<(), Memory> {
     let (most, rest) = number_and_rest(rest);
     let (first, second) = rest.split_once(" and ").unwrap_or((rest, rest));
+    let (alloc, most) = (call.alloc, small(most));
     let left = cid_in::<X>(alloc, first)?;
     let right = cid_in::<X>(alloc, second)?;
-    let (one, two) = scene.both();
-    match same(alloc, one, two, &left, &right, small(most), touches) {
-        Ok(found) => say_compared(alloc, &found, told),
-        Err(fault) => say_same_fault(alloc, &fault, told),
+    let (store, other) = (&mut *call.store, &mut *call.other);
+    match uf_same::same(alloc, store, other, &left, &right, most, call.touches) {
+        Ok(found) => say_compared(alloc, &found, call.told),
+        Err(fault) => say_same_fault(alloc, &fault, call.told),
     }
-}
-
-/// Makes a call; whether the word names one of these.
-pub fn call<X: BlockHash, L: Ledger>(
-    scene: &mut Scene<X>,
-    word: &str,
-    rest: &str,
-    told: &mut Block,
-    touches: &mut Steps<L>,
-) -> Result<bool, Memory> {
-    match word {
-        "import" => read_car(scene, rest, told, touches)?,
-        "export" => write_car(scene, rest, told, touches)?,
-        "pull" => pull_from(scene, rest, told, touches)?,
-        "serve" => serve_to(scene, rest, told, touches)?,
-        "same" => compare(scene, rest, told, touches)?,
-        _ => return Ok(false),
-    }
-    Ok(true)
 }

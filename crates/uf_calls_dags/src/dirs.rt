@@ -1,17 +1,14 @@
 //! Calls on directories in shards, and on what is built anew.
-ghost use Rattle.std.specs.Prelude.{◌≤◌, length};
-ghost use Rattle.uf_tree.specs.Validity.{IsDirectory};
 
 use crate::files::say_entry;
 use std::alloc::Global;
 use std::sync::ledger::Ledger;
-use uf_adopt::adopt;
-use uf_cid::{Block, BlockHash, Cid, Codec, Memory, Sha256Hash};
+use uf_cid::{BlockHash, Cid, Codec, Memory, Sha256Hash};
 use uf_lenient::Limits;
 use uf_murmur::{FirstEight, Murmur3, NameHash};
-use uf_playing::{Scene, cid_of, say_fault};
-use uf_shard::{DirFault, build, entries, find, weight_over};
-use uf_store::{MemStore, Steps};
+use uf_playing::{Call, Said, cid_of, say_fault};
+use uf_shard::{DirFault, build, find, weight_over};
+use uf_store::MemStore;
 use uf_testing::{number_and_rest, say, tell_count, two_numbers_and_rest};
 use uf_tree::{Entry, Meta, Name, Pair, Pairs, Profile, is_directory};
 
@@ -42,185 +39,88 @@ fn add(pairs: &mut Pairs, name: Name, tsize: u64) -> Result<(), Memory> {
     pairs.push(Pair { name, entry })
 }
 
-fn say_dir_fault(alloc: Global, fault: &DirFault, told: &mut Block) -> Result<(), Memory> {
-    match fault {
-        DirFault::TooBig => say(told, "too big"),
-        DirFault::Store(fault) => say_fault(alloc, fault, told),
-        DirFault::Collision(_, _) => say(told, "collision"),
-    }
-}
-
 // Builds a directory in shards of these pairs, and says its root.
-fn build_of<X: BlockHash, N: NameHash, L: Ledger>(
-    alloc: Global,
-    store: &mut MemStore<X>,
-    pairs: &Pairs,
-    told: &mut Block,
-    touches: &mut Steps<L>,
-) -> Result<(), Memory>
-    requires directory { IsDirectory pairs.now }
-    requires files { 1 ≤ length pairs.now }
-{
-    match build::<MemStore<X>, N, L>(alloc, store, pairs, &Meta::none(), touches) {
-        Ok(root) => say_entry(alloc, &root, told),
-        Err(fault) => say_dir_fault(alloc, &fault, told),
-    }
-}
-
 fn build_pairs<X: BlockHash, N: NameHash, L: Ledger>(
-    alloc: Global,
-    store: &mut MemStore<X>,
+    call: &mut Call<X, L>,
     pairs: &Pairs,
-    told: &mut Block,
-    touches: &mut Steps<L>,
 ) -> Result<(), Memory> {
     if pairs.len() == 0 || !is_directory(pairs) {
-        return say(told, "no directory");
+        return say(call.told, "no directory");
     }
-    build_of::<X, N, L>(alloc, store, pairs, told, touches)
+    let (alloc, meta) = (call.alloc, Meta::none());
+    match build::<MemStore<X>, N, L>(alloc, call.store, pairs, &meta, call.touches) {
+        Ok(root) => say_entry(alloc, &root, call.told),
+        Err(DirFault::TooBig) => say(call.told, "too big"),
+        Err(DirFault::Store(fault)) => say_fault(alloc, &fault, call.told),
+        Err(DirFault::Collision(_, _)) => say(call.told, "collision"),
+    }
 }
 
-// Two empty files `a` and `b` that have these Tsizes, under the hash by letters: `shard-two TSIZE TSIZE`.
-fn build_two<X: BlockHash, L: Ledger>(
-    scene: &mut Scene<X>,
-    rest: &str,
-    told: &mut Block,
-    touches: &mut Steps<L>,
-) -> Result<(), Memory> {
+/// Two empty files `a` and `b` that have these Tsizes, under the hash by letters: `shard-two TSIZE TSIZE`.
+pub fn build_two<X: BlockHash, L: Ledger>(call: &mut Call<X, L>, rest: &str) -> Result<(), Memory> {
     let (first, second, _) = two_numbers_and_rest(rest);
-    let mut pairs = Pairs::new(scene.alloc);
-    add(&mut pairs, name_of(scene.alloc, "a")?, first)?;
-    add(&mut pairs, name_of(scene.alloc, "b")?, second)?;
-    build_pairs::<X, FirstEight, L>(scene.alloc, &mut scene.store, &pairs, told, touches)
-}
-
-fn add_number(alloc: Global, pairs: &mut Pairs, number: u64, tsize: u64) -> Result<(), Memory> {
-    add(pairs, numbered_name(alloc, number)?, tsize)
+    let mut pairs = Pairs::new(call.alloc);
+    add(&mut pairs, name_of(call.alloc, "a")?, first)?;
+    add(&mut pairs, name_of(call.alloc, "b")?, second)?;
+    build_pairs::<X, FirstEight, L>(call, &pairs)
 }
 
 // n empty files, named by `f` and five digits. The Tsize of each is its number times this one.
 fn numbered(alloc: Global, count: u64, times: u64) -> Result<Pairs, Memory> {
     let mut pairs = Pairs::new(alloc);
     for number in 0..count {
-        add_number(alloc, &mut pairs, number, number.saturating_mul(times))?;
+        let name = numbered_name(alloc, number)?;
+        add(&mut pairs, name, number.saturating_mul(times))?;
     }
     Ok(pairs)
 }
 
-// A directory of numbered files under the hash of UnixFS: `shard-files COUNT TIMES`.
-fn build_numbered<X: BlockHash, L: Ledger>(
-    scene: &mut Scene<X>,
+/// A directory of numbered files under the hash of UnixFS: `shard-files COUNT TIMES`.
+pub fn build_numbered<X: BlockHash, L: Ledger>(
+    call: &mut Call<X, L>,
     rest: &str,
-    told: &mut Block,
-    touches: &mut Steps<L>,
 ) -> Result<(), Memory> {
     let (count, times, _) = two_numbers_and_rest(rest);
-    let pairs = numbered(scene.alloc, count, times)?;
-    build_pairs::<X, Murmur3, L>(scene.alloc, &mut scene.store, &pairs, told, touches)
+    let pairs = numbered(call.alloc, count, times)?;
+    build_pairs::<X, Murmur3, L>(call, &pairs)
 }
 
-fn is_found<X: BlockHash, L: Ledger>(
-    alloc: Global,
-    store: &mut MemStore<X>,
-    root: &Cid,
-    pair: &Pair,
-    touches: &mut Steps<L>,
-) -> bool {
-    match find::<MemStore<X>, Murmur3, L>(alloc, store, root, &pair.name, touches) {
-        Ok(Some(entry)) => entry == pair.entry,
-        _ => false,
-    }
-}
-
-fn are_found<X: BlockHash, L: Ledger>(
-    alloc: Global,
-    store: &mut MemStore<X>,
-    root: &Cid,
-    pairs: &Pairs,
-    touches: &mut Steps<L>,
-) -> usize {
-    let mut count = 0usize;
-    for pair in pairs.as_slice() {
-        if is_found(alloc, store, root, pair, touches) {
-            count = count.saturating_add(1);
-        }
-    }
-    count
-}
-
-// How many of COUNT numbered files are found below a root: `find-files COUNT CID`.
-fn find_numbered<X: BlockHash, L: Ledger>(
-    scene: &mut Scene<X>,
+/// How many of COUNT numbered files are found below a root: `find-files COUNT CID`.
+pub fn find_numbered<X: BlockHash, L: Ledger>(
+    call: &mut Call<X, L>,
     rest: &str,
-    told: &mut Block,
-    touches: &mut Steps<L>,
 ) -> Result<(), Memory> {
     let (count, text) = number_and_rest(rest);
-    let root = cid_of(text);
-    let pairs = numbered(scene.alloc, count, 0)?;
-    let found = are_found(scene.alloc, &mut scene.store, &root, &pairs, touches);
-    tell_count(told, scene.alloc, found)
+    let (alloc, root) = (call.alloc, cid_of(text));
+    let pairs = numbered(alloc, count, 0)?;
+    let mut hits = 0usize;
+    for pair in pairs.as_slice() {
+        let found = find::<_, Murmur3, L>(alloc, call.store, &root, &pair.name, call.touches);
+        if matches!(found, Ok(Some(entry)) if entry == pair.entry) {
+            hits = hits.saturating_add(1);
+        }
+    }
+    tell_count(call.told, alloc, hits)
 }
 
-// Whether a directory weighs more than a limit: `weight-over LIMIT CID`.
-fn weigh<X: BlockHash, L: Ledger>(
-    scene: &mut Scene<X>,
-    rest: &str,
-    told: &mut Block,
-    touches: &mut Steps<L>,
-) -> Result<(), Memory> {
+/// Whether a directory weighs more than a limit: `weight-over LIMIT CID`.
+pub fn weigh<X: BlockHash, L: Ledger>(call: &mut Call<X, L>, rest: &str) -> Said {
     let (limit, text) = number_and_rest(rest);
-    match weight_over(scene.alloc, &mut scene.store, &cid_of(text), limit, touches) {
-        Ok(true) => say(told, "over"),
-        Ok(false) => say(told, "not over"),
-        Err(fault) => say_fault(scene.alloc, &fault, told),
-    }
+    let is_over = weight_over(call.alloc, call.store, &cid_of(text), limit, call.touches)?;
+    Ok(say(call.told, if is_over { "over" } else { "not over" })?)
 }
 
-// How many entries a directory has: `entries CID`.
-fn count_entries<X: BlockHash, L: Ledger>(
-    scene: &mut Scene<X>,
-    rest: &str,
-    told: &mut Block,
-    touches: &mut Steps<L>,
-) -> Result<(), Memory> {
-    match entries(scene.alloc, &mut scene.store, &cid_of(rest), touches) {
-        Ok(pairs) => tell_count(told, scene.alloc, pairs.len()),
-        Err(fault) => say_fault(scene.alloc, &fault, told),
-    }
+/// How many entries a directory has: `entries CID`.
+pub fn entries<X: BlockHash, L: Ledger>(call: &mut Call<X, L>, rest: &str) -> Said {
+    let pairs = uf_shard::entries(call.alloc, call.store, &cid_of(rest), call.touches)?;
+    Ok(tell_count(call.told, call.alloc, pairs.len())?)
 }
 
-// Builds anew what a CID denotes: `adopt CID`.
-fn build_anew<X: BlockHash, L: Ledger>(
-    scene: &mut Scene<X>,
-    rest: &str,
-    told: &mut Block,
-    touches: &mut Steps<L>,
-) -> Result<(), Memory> {
-    let cid = cid_of(rest);
-    let (alloc, store) = (scene.alloc, &mut scene.store);
-    match adopt::<_, Murmur3, L>(alloc, store, &Profile::usual(), &cid, &USUAL, touches) {
-        Ok(entry) => say_entry(alloc, &entry, told),
-        Err(_) => say(told, "refused"),
+/// Builds anew what a CID denotes: `adopt CID`.
+pub fn adopt<X: BlockHash, L: Ledger>(call: &mut Call<X, L>, rest: &str) -> Result<(), Memory> {
+    let (alloc, usual, cid) = (call.alloc, Profile::usual(), cid_of(rest));
+    match uf_adopt::adopt::<_, Murmur3, L>(alloc, call.store, &usual, &cid, &USUAL, call.touches) {
+        Ok(entry) => say_entry(alloc, &entry, call.told),
+        Err(_) => say(call.told, "refused"),
     }
-}
-
-/// Makes a call; whether the word names one of these.
-pub fn call<X: BlockHash, L: Ledger>(
-    scene: &mut Scene<X>,
-    word: &str,
-    rest: &str,
-    told: &mut Block,
-    touches: &mut Steps<L>,
-) -> Result<bool, Memory> {
-    match word {
-        "shard-two" => build_two(scene, rest, told, touches)?,
-        "shard-files" => build_numbered(scene, rest, told, touches)?,
-        "find-files" => find_numbered(scene, rest, told, touches)?,
-        "weight-over" => weigh(scene, rest, told, touches)?,
-        "entries" => count_entries(scene, rest, told, touches)?,
-        "adopt" => build_anew(scene, rest, told, touches)?,
-        _ => return Ok(false),
-    }
-    Ok(true)
 }

@@ -7,9 +7,9 @@ use std::sync::ledger::Ledger;
 use uf_build::{BuildFault, Builder, IntakeFault, file_apart, file_of, hash_of};
 use uf_cid::{Block, BlockHash, Memory};
 use uf_edge::MemSource;
-use uf_fileread::{length, measure};
-use uf_playing::{Scene, cid_in, say_amount, say_cid, say_fault, size_of, small, source_of};
-use uf_store::{MemStore, Steps, Store};
+use uf_fileread::measure;
+use uf_playing::{Call, cid_in, say_amount, say_cid, say_fault, size_of, small, source_of};
+use uf_store::{Steps, Store};
 use uf_testing::{number_of, say, tell_count, two_numbers_and_rest};
 use uf_tree::{Entry, Profile};
 
@@ -39,12 +39,11 @@ pub fn say_build_fault(alloc: Global, fault: &BuildFault, told: &mut Block) -> R
     }
 }
 
+/// The entry of a file that is built or changed, or why there is none.
+pub type Built = Result<Entry, BuildFault>;
+
 /// Says the entry of a file that is built or changed, or why there is none.
-pub fn say_built(
-    alloc: Global,
-    answer: &Result<Entry, BuildFault>,
-    told: &mut Block,
-) -> Result<(), Memory> {
+pub fn say_built(alloc: Global, answer: &Built, told: &mut Block) -> Result<(), Memory> {
     match answer {
         Ok(entry) => say_entry(alloc, entry, told),
         Err(fault) => say_build_fault(alloc, fault, told),
@@ -58,31 +57,20 @@ pub fn fed<S: Store, L: Ledger>(
     bytes: &[u8],
     by: usize,
     touches: &mut Steps<L>,
-) -> Result<Entry, BuildFault> {
+) -> Built {
     for piece in bytes.chunks(by.max(1)) {
         builder.feed(store, piece, touches)?;
     }
     builder.finish(store, touches)
 }
 
-// Builds a file over the store: `build CHUNK WIDTH BY` on the input.
-fn build<X: BlockHash, L: Ledger>(
-    scene: &mut Scene<X>,
-    rest: &str,
-    told: &mut Block,
-    touches: &mut Steps<L>,
-) -> Result<(), Memory> {
+/// Builds a file over the store: `build CHUNK WIDTH BY` on the input.
+pub fn build<X: BlockHash, L: Ledger>(call: &mut Call<X, L>, rest: &str) -> Result<(), Memory> {
     let (chunk, width, rest) = two_numbers_and_rest(rest);
     let by = size_of(number_of(rest));
-    let builder = Builder::new(scene.alloc, profile(chunk, width));
-    let answer = fed(
-        builder,
-        &mut scene.store,
-        scene.input.as_slice(),
-        by,
-        touches,
-    );
-    say_built(scene.alloc, &answer, told)
+    let builder = Builder::new(call.alloc, profile(chunk, width));
+    let answer = fed(builder, call.store, call.input.as_slice(), by, call.touches);
+    say_built(call.alloc, &answer, call.told)
 }
 
 fn say_fed(alloc: Global, answer: Result<(), BuildFault>, told: &mut Block) -> Result<(), Memory> {
@@ -92,98 +80,53 @@ fn say_fed(alloc: Global, answer: Result<(), BuildFault>, told: &mut Block) -> R
     }
 }
 
-// Feeds the input to a builder of pieces of one byte, then one byte more, and ends it.
-fn overfeed<X: BlockHash, L: Ledger>(
-    scene: &mut Scene<X>,
-    told: &mut Block,
-    touches: &mut Steps<L>,
-) -> Result<(), Memory> {
-    let mut builder = Builder::new(scene.alloc, profile(1, 2));
-    let first = builder.feed(&mut scene.store, scene.input.as_slice(), touches);
-    let second = builder.feed(&mut scene.store, b"a", touches);
-    let ended = builder.finish(&mut scene.store, touches).map(|_| ());
-    say_fed(scene.alloc, first, told)?;
-    say_fed(scene.alloc, second, told)?;
-    say_fed(scene.alloc, ended, told)
+/// Feeds the input to a builder of pieces of one byte, then one byte more, and ends it: `overfeed`.
+pub fn overfeed<X: BlockHash, L: Ledger>(call: &mut Call<X, L>) -> Result<(), Memory> {
+    let mut builder = Builder::new(call.alloc, profile(1, 2));
+    let first = builder.feed(call.store, call.input.as_slice(), call.touches);
+    let second = builder.feed(call.store, b"a", call.touches);
+    let ended = builder.finish(call.store, call.touches).map(|_| ());
+    say_fed(call.alloc, first, call.told)?;
+    say_fed(call.alloc, second, call.told)?;
+    say_fed(call.alloc, ended, call.told)
 }
 
-fn say_intake(
-    alloc: Global,
-    answer: &Result<Entry, IntakeFault>,
-    told: &mut Block,
+/// Makes a file of the input, of which a call may fail, with touches that are counted or counted apart, or hashes it
+/// and keeps nothing: `intake CALL`, `intake-apart`, `hash`.
+pub fn take_in<X: BlockHash, L: Ledger>(
+    call: &mut Call<X, L>,
+    word: &str,
+    rest: &str,
 ) -> Result<(), Memory> {
+    let (alloc, usual) = (call.alloc, Profile::usual());
+    let mut source = source_of(alloc, call.input.as_slice(), 4, number_of(rest))?;
+    let answer = match word {
+        "intake" => file_of(alloc, usual, call.store, &mut source, call.touches),
+        "intake-apart" => file_apart(alloc, usual, call.store, &mut source),
+        _ => hash_of::<X, MemSource>(alloc, usual, &mut source),
+    };
     match answer {
-        Ok(entry) => say_entry(alloc, entry, told),
-        Err(IntakeFault::Read) => say(told, "read"),
-        Err(IntakeFault::FileTooLong) => say(told, "file too long"),
-        Err(IntakeFault::Store(fault)) => say_fault(alloc, fault, told),
+        Ok(entry) => say_entry(alloc, &entry, call.told),
+        Err(IntakeFault::Read) => say(call.told, "read"),
+        Err(IntakeFault::FileTooLong) => say(call.told, "file too long"),
+        Err(IntakeFault::Store(fault)) => say_fault(alloc, &fault, call.told),
     }
 }
 
-// Makes a file of a source, with touches that are counted or counted apart, or hashes it and keeps nothing.
-fn file_by<X: BlockHash, L: Ledger>(
-    alloc: Global,
-    store: &mut MemStore<X>,
-    word: &str,
-    source: &mut MemSource,
-    touches: &mut Steps<L>,
-) -> Result<Entry, IntakeFault> {
-    match word {
-        "intake" => file_of(alloc, Profile::usual(), store, source, touches),
-        "intake-apart" => file_apart(alloc, Profile::usual(), store, source),
-        _ => hash_of::<X, MemSource>(alloc, Profile::usual(), source),
-    }
-}
-
-// Makes a file of the input, of which a call may fail: `intake CALL`, `intake-apart`, `hash`.
-fn take_in<X: BlockHash, L: Ledger>(
-    scene: &mut Scene<X>,
-    words: (&str, &str),
-    told: &mut Block,
-    touches: &mut Steps<L>,
-) -> Result<(), Memory> {
-    let (word, rest) = words;
-    let mut source = source_of(scene.alloc, scene.input.as_slice(), 4, number_of(rest))?;
-    let answer = file_by(scene.alloc, &mut scene.store, word, &mut source, touches);
-    say_intake(scene.alloc, &answer, told)
-}
-
-// How long the file of a root is, and how many links it has: `length CODEC BYTES`.
-fn say_length<X: BlockHash, L: Ledger>(
-    scene: &mut Scene<X>,
-    rest: &str,
-    told: &mut Block,
-    touches: &mut Steps<L>,
-) -> Result<(), Memory> {
-    let cid = cid_in::<X>(scene.alloc, rest)?;
+/// How long the file of a root is, and how many links it has: `length CODEC BYTES`.
+pub fn length<X: BlockHash, L: Ledger>(call: &mut Call<X, L>, rest: &str) -> Result<(), Memory> {
+    let alloc = call.alloc;
+    let cid = cid_in::<X>(alloc, rest)?;
     let entry = Entry { cid, tsize: 251 };
-    match length(scene.alloc, &mut scene.store, &entry, touches) {
-        Ok(size) => tell_count(told, scene.alloc, size_of(size))?,
-        Err(fault) => say_fault(scene.alloc, &fault, told)?,
+    match uf_fileread::length(alloc, call.store, &entry, call.touches) {
+        Ok(size) => tell_count(call.told, alloc, size_of(size))?,
+        Err(fault) => say_fault(alloc, &fault, call.told)?,
     }
-    match measure(scene.alloc, &mut scene.store, &entry, touches) {
+    match measure(alloc, call.store, &entry, call.touches) {
         Ok(size) => {
-            let line = format!(in scene.alloc; "{} bytes, {} links", size.length, size.links)?;
-            say(told, line.as_str())
+            let line = format!(in alloc; "{} bytes, {} links", size.length, size.links)?;
+            say(call.told, line.as_str())
         }
-        Err(fault) => say_fault(scene.alloc, &fault, told),
+        Err(fault) => say_fault(alloc, &fault, call.told),
     }
-}
-
-/// Makes a call; whether the word names one of these.
-pub fn call<X: BlockHash, L: Ledger>(
-    scene: &mut Scene<X>,
-    word: &str,
-    rest: &str,
-    told: &mut Block,
-    touches: &mut Steps<L>,
-) -> Result<bool, Memory> {
-    match word {
-        "build" => build(scene, rest, told, touches)?,
-        "overfeed" => overfeed(scene, told, touches)?,
-        "intake" | "intake-apart" | "hash" => take_in(scene, (word, rest), told, touches)?,
-        "length" => say_length(scene, rest, told, touches)?,
-        _ => return Ok(false),
-    }
-    Ok(true)
 }

@@ -3,9 +3,8 @@
 use std::alloc::Global;
 use std::sync::ledger::Ledger;
 use uf_cid::{Block, BlockHash, Cid, Memory};
-use uf_lenient::{DagFault, Limits, Shape, StreamFault, shallow, stream, survey};
-use uf_playing::{Scene, cid_of, say_about, say_fault, say_number, small};
-use uf_store::Steps;
+use uf_lenient::{DagFault, Limits, Shape, StreamFault};
+use uf_playing::{Call, cid_of, say_about, say_fault, say_number, small};
 use uf_testing::{say, sink, tell_bytes, two_numbers_and_rest};
 use uf_tree::Meta;
 
@@ -33,13 +32,9 @@ pub fn say_meta(alloc: Global, meta: &Meta, told: &mut Block) -> Result<(), Memo
     say(told, line.as_str())
 }
 
-// Says what a CID names: a file, or a directory and how many ways it has; and its metadata.
-fn say_shape(
-    alloc: Global,
-    shape: &Result<Shape, DagFault>,
-    told: &mut Block,
-) -> Result<(), Memory> {
-    match shape {
+// Says what a DAG is: a file, or a directory and how many ways it has; and its metadata.
+fn say_dag(alloc: Global, dag: &Result<Shape, DagFault>, told: &mut Block) -> Result<(), Memory> {
+    match dag {
         Ok(Shape::File(meta)) => {
             say(told, "a file")?;
             say_meta(alloc, meta, told)
@@ -52,68 +47,38 @@ fn say_shape(
     }
 }
 
-// The bytes of a file, into room for a thousand.
-fn stream_file<X: BlockHash, L: Ledger>(
-    scene: &mut Scene<X>,
-    cid: &Cid,
-    limits: &Limits,
-    told: &mut Block,
-    touches: &mut Steps<L>,
-) -> Result<(), Memory> {
-    let mut output = sink(scene.alloc, 1000, None)?;
-    match stream(
-        scene.alloc,
-        &mut scene.store,
-        cid,
-        limits,
-        &mut output,
-        touches,
-    ) {
-        Ok(_) => tell_bytes(told, scene.alloc, b"> ", output.bytes()),
-        Err(StreamFault::Sink) => say(told, "output"),
-        Err(StreamFault::Dag(fault)) => say_dag_fault(scene.alloc, &fault, told),
-    }
-}
-
-// Reads what is below a CID: everything, one directory, or the bytes of a file.
-fn read<X: BlockHash, L: Ledger>(
-    scene: &mut Scene<X>,
-    word: &str,
-    what: (&Cid, &Limits),
-    told: &mut Block,
-    touches: &mut Steps<L>,
-) -> Result<(), Memory> {
-    let (cid, limits) = what;
-    match word {
-        "survey" => {
-            let shape = survey(scene.alloc, &mut scene.store, cid, limits, touches);
-            say_shape(scene.alloc, &shape, told)
-        }
-        "shallow" => {
-            let shape = shallow(scene.alloc, &mut scene.store, cid, limits, touches);
-            say_shape(scene.alloc, &shape, told)
-        }
-        _ => stream_file(scene, cid, limits, told, touches),
-    }
-}
-
-/// Makes a call `survey`, `shallow` or `stream`, after which the depth, the visits and a CID stand; whether the word
-/// names one of these.
-pub fn call<X: BlockHash, L: Ledger>(
-    scene: &mut Scene<X>,
-    word: &str,
-    rest: &str,
-    told: &mut Block,
-    touches: &mut Steps<L>,
-) -> Result<bool, Memory> {
-    if word != "survey" && word != "shallow" && word != "stream" {
-        return Ok(false);
-    }
+// Limits, and the CID that is read within them: `DEPTH VISITS CID`.
+fn limits_and_cid(rest: &str) -> (Limits, Cid) {
     let (depth, visits, text) = two_numbers_and_rest(rest);
     let limits = Limits {
         depth: small(depth),
         visits: small(visits),
     };
-    read(scene, word, (&cid_of(text), &limits), told, touches)?;
-    Ok(true)
+    (limits, cid_of(text))
+}
+
+/// Reads all that is below a CID: `survey DEPTH VISITS CID`.
+pub fn survey<X: BlockHash, L: Ledger>(call: &mut Call<X, L>, rest: &str) -> Result<(), Memory> {
+    let (limits, cid) = limits_and_cid(rest);
+    let dag = uf_lenient::survey(call.alloc, call.store, &cid, &limits, call.touches);
+    say_dag(call.alloc, &dag, call.told)
+}
+
+/// Reads one directory: `shallow DEPTH VISITS CID`.
+pub fn shallow<X: BlockHash, L: Ledger>(call: &mut Call<X, L>, rest: &str) -> Result<(), Memory> {
+    let (limits, cid) = limits_and_cid(rest);
+    let dag = uf_lenient::shallow(call.alloc, call.store, &cid, &limits, call.touches);
+    say_dag(call.alloc, &dag, call.told)
+}
+
+/// Reads the bytes of a file, into room for a thousand: `stream DEPTH VISITS CID`.
+pub fn stream<X: BlockHash, L: Ledger>(call: &mut Call<X, L>, rest: &str) -> Result<(), Memory> {
+    let alloc = call.alloc;
+    let (limits, cid) = limits_and_cid(rest);
+    let mut output = sink(alloc, 1000, None)?;
+    match uf_lenient::stream(alloc, call.store, &cid, &limits, &mut output, call.touches) {
+        Ok(_) => tell_bytes(call.told, alloc, b"> ", output.bytes()),
+        Err(StreamFault::Sink) => say(call.told, "output"),
+        Err(StreamFault::Dag(fault)) => say_dag_fault(alloc, &fault, call.told),
+    }
 }

@@ -4,226 +4,150 @@
 use crate::dirs::{name_of, numbered_name};
 use crate::files::say_entry;
 use std::alloc::Global;
+use std::mem;
 use std::sync::ledger::Ledger;
-use uf_cid::{Block, BlockHash, Cid, Cids, Memory};
-use uf_dir::{Traced, find, remove, trace, trail};
+use uf_cid::{Block, BlockHash, Cid, Memory};
+use uf_dir::{find, trace, trail};
 use uf_murmur::{FirstEight, Murmur3, NameHash};
-use uf_playing::{Scene, cid_of, say_cids, say_fault};
-use uf_store::{Load, MemStore, Steps, Store, StoreFault};
+use uf_playing::{Call, Said, cid_of, say_cids, say_fault};
+use uf_store::{Load, MemStore, Store};
 use uf_testing::{number_and_rest, say, tell_bytes, word_and_rest};
 use uf_tree::{Entry, Name, Profile};
 
-// Says an entry, or that there is none, in these words.
-fn say_found(
-    alloc: Global,
-    answer: &Result<Option<Entry>, StoreFault>,
-    none: &str,
-    told: &mut Block,
-) -> Result<(), Memory> {
-    match answer {
-        Ok(Some(entry)) => say_entry(alloc, entry, told),
-        Ok(None) => say(told, none),
-        Err(fault) => say_fault(alloc, fault, told),
+// Says the entry of a name, or that there is none.
+fn say_found(alloc: Global, found: &Option<Entry>, told: &mut Block) -> Result<(), Memory> {
+    match found {
+        Some(entry) => say_entry(alloc, entry, told),
+        None => say(told, "absent"),
     }
 }
 
-// Says the blocks that decide a name.
-fn say_trail(
-    alloc: Global,
-    answer: &Result<Cids, StoreFault>,
-    told: &mut Block,
-) -> Result<(), Memory> {
-    match answer {
-        Ok(cids) => say_cids(told, cids),
-        Err(fault) => say_fault(alloc, fault, told),
-    }
-}
-
-fn say_traced(
-    alloc: Global,
-    answer: Result<Traced, StoreFault>,
-    told: &mut Block,
-) -> Result<(), Memory> {
-    match answer {
-        Ok(traced) => {
-            say_found(alloc, &Ok(traced.entry), "absent", told)?;
-            say_cids(told, &traced.trail)
-        }
-        Err(fault) => say_fault(alloc, &fault, told),
-    }
-}
-
-// Asks a directory for a name: by a search, for the blocks that decide it, or for both in one walk.
+// Asks a directory of any form for a name: by a search, for the blocks that decide it, or for both in one walk.
 fn ask<X: BlockHash, N: NameHash, L: Ledger>(
-    scene: &mut Scene<X>,
-    what: (&str, &Cid, &Name),
-    told: &mut Block,
-    touches: &mut Steps<L>,
-) -> Result<(), Memory> {
-    let (word, root, name) = what;
-    let (alloc, store) = (scene.alloc, &mut scene.store);
-    match word {
+    call: &mut Call<X, L>,
+    how: &str,
+    root: &Cid,
+    name: &Name,
+) -> Said {
+    let (alloc, store, touches) = (call.alloc, &mut *call.store, &mut *call.touches);
+    match how {
         "trace" => {
-            let answer = trace::<MemStore<X>, N, L>(alloc, store, root, name, touches);
-            say_traced(alloc, answer, told)
+            let traced = trace::<MemStore<X>, N, L>(alloc, store, root, name, touches)?;
+            say_found(alloc, &traced.entry, call.told)?;
+            say_cids(call.told, &traced.trail)?;
         }
         "trail" => {
-            let answer = trail::<MemStore<X>, N, L>(alloc, store, root, name, touches);
-            say_trail(alloc, &answer, told)
+            let cids = trail::<MemStore<X>, N, L>(alloc, store, root, name, touches)?;
+            say_cids(call.told, &cids)?;
         }
         _ => {
-            let answer = find::<MemStore<X>, N, L>(alloc, store, root, name, touches);
-            say_found(alloc, &answer, "absent", told)
+            let found = find::<MemStore<X>, N, L>(alloc, store, root, name, touches)?;
+            say_found(alloc, &found, call.told)?;
         }
     }
+    Ok(())
 }
 
-// Asks a directory in shards for a name, under the hash by letters.
-fn ask_shards<X: BlockHash, L: Ledger>(
-    scene: &mut Scene<X>,
-    what: (&str, &Cid, &Name),
-    told: &mut Block,
-    touches: &mut Steps<L>,
-) -> Result<(), Memory> {
-    let (word, root, name) = what;
-    let (alloc, store) = (scene.alloc, &mut scene.store);
-    if word == "trail" {
-        let answer = uf_shard::trail::<_, FirstEight, L>(alloc, store, root, name, touches);
-        return say_trail(alloc, &answer, told);
-    }
-    let answer = uf_shard::find::<_, FirstEight, L>(alloc, store, root, name, touches);
-    say_found(alloc, &answer, "absent", told)
-}
-
-// Asks a directory in shards, or one of any form, for a name: `find NAME CID`, `trail NAME CID`, `find-in NAME CID`,
-// `trail-in NAME CID`.
-fn look_for<X: BlockHash, L: Ledger>(
-    scene: &mut Scene<X>,
-    words: (&str, &str),
-    told: &mut Block,
-    touches: &mut Steps<L>,
-) -> Result<(), Memory> {
-    let (word, rest) = words;
+/// Asks a directory in shards for a name that is placed by its letters: `find NAME CID`, `trail NAME CID`.
+pub fn ask_shards<X: BlockHash, L: Ledger>(call: &mut Call<X, L>, word: &str, rest: &str) -> Said {
     let (text, rest) = word_and_rest(rest);
-    let name = name_of(scene.alloc, text)?;
-    let root = cid_of(rest);
-    match word.strip_suffix("-in") {
-        Some(how) => ask::<X, FirstEight, L>(scene, (how, &root, &name), told, touches),
-        None => ask_shards(scene, (word, &root, &name), told, touches),
+    let (alloc, root) = (call.alloc, cid_of(rest));
+    let name = name_of(alloc, text)?;
+    let (store, touches) = (&mut *call.store, &mut *call.touches);
+    if word == "trail" {
+        let cids = uf_shard::trail::<_, FirstEight, L>(alloc, store, &root, &name, touches)?;
+        return Ok(say_cids(call.told, &cids)?);
+    }
+    let found = uf_shard::find::<_, FirstEight, L>(alloc, store, &root, &name, touches)?;
+    Ok(say_found(alloc, &found, call.told)?)
+}
+
+/// Asks a directory of any form for a name that is placed by its letters: `find-in NAME CID`, `trail-in NAME CID`.
+pub fn ask_any<X: BlockHash, L: Ledger>(call: &mut Call<X, L>, how: &str, rest: &str) -> Said {
+    let (text, rest) = word_and_rest(rest);
+    let name = name_of(call.alloc, text)?;
+    ask::<X, FirstEight, L>(call, how, &cid_of(rest), &name)
+}
+
+// Asks for a name that is placed as UnixFS has it, and says what comes of it.
+fn ask_usual<X: BlockHash, L: Ledger>(
+    call: &mut Call<X, L>,
+    how: &str,
+    root: &Cid,
+    name: &Name,
+) -> Result<(), Memory> {
+    match ask::<X, Murmur3, L>(call, how, root, name) {
+        Ok(()) => Ok(()),
+        Err(fault) => say_fault(call.alloc, &fault, call.told),
     }
 }
 
 // Asks while a block is lost, which is there again after that.
 fn ask_without<X: BlockHash, L: Ledger>(
-    scene: &mut Scene<X>,
+    call: &mut Call<X, L>,
     lost: &Cid,
-    what: (&str, &Cid, &Name),
-    told: &mut Block,
-    touches: &mut Steps<L>,
+    how: &str,
+    root: &Cid,
+    name: &Name,
 ) -> Result<(), Memory> {
-    if scene.store.load(lost, touches) != Load::Found {
-        return say(told, "not held");
+    if call.store.load(lost, call.touches) != Load::Found {
+        return say(call.told, "not held");
     }
-    let block = Block::from_slice(scene.alloc, scene.store.block())?;
-    scene.store.forget(lost);
-    ask::<X, Murmur3, L>(scene, what, told, touches)?;
-    scene.store.plant(lost, block)
+    let block = Block::from_slice(call.alloc, call.store.block())?;
+    call.store.forget(lost);
+    ask_usual(call, how, root, name)?;
+    call.store.plant(lost, block)
 }
 
 // Asks without each block that decides the name.
 fn ask_lossy<X: BlockHash, L: Ledger>(
-    scene: &mut Scene<X>,
-    what: (&str, &Cid, &Name),
-    told: &mut Block,
-    touches: &mut Steps<L>,
+    call: &mut Call<X, L>,
+    how: &str,
+    root: &Cid,
+    name: &Name,
 ) -> Result<(), Memory> {
-    let (_, root, name) = what;
-    match trail::<MemStore<X>, Murmur3, L>(scene.alloc, &mut scene.store, root, name, touches) {
+    match trail::<_, Murmur3, L>(call.alloc, call.store, root, name, call.touches) {
         Ok(cids) => {
             for lost in cids.as_slice() {
-                ask_without(scene, lost, what, told, touches)?;
+                ask_without(call, lost, how, root, name)?;
             }
             Ok(())
         }
-        Err(fault) => say_fault(scene.alloc, &fault, told),
+        Err(fault) => say_fault(call.alloc, &fault, call.told),
     }
 }
 
-// Asks for the name of a number.
-fn ask_number<X: BlockHash, L: Ledger>(
-    scene: &mut Scene<X>,
-    how: (&str, &str, &Cid),
-    number: u64,
-    lines: &mut Block,
-    touches: &mut Steps<L>,
-) -> Result<(), Memory> {
-    let (word, call, root) = how;
-    let name = numbered_name(scene.alloc, number)?;
-    if word == "ask-files" {
-        ask::<X, Murmur3, L>(scene, (call, root, &name), lines, touches)
-    } else {
-        ask_lossy(scene, (call, root, &name), lines, touches)
-    }
-}
-
-fn ask_numbers<X: BlockHash, L: Ledger>(
-    scene: &mut Scene<X>,
-    how: (&str, &str, &Cid),
-    count: u64,
-    lines: &mut Block,
-    touches: &mut Steps<L>,
-) -> Result<(), Memory> {
-    for number in 0..count {
-        ask_number(scene, how, number, lines, touches)?;
-    }
-    Ok(())
-}
-
-// Asks for the first numbered names, as they are, or without each block that decides one: `ask-files HOW COUNT CID`,
-// `ask-lossy HOW COUNT CID`.
-fn ask_files<X: BlockHash, L: Ledger>(
-    scene: &mut Scene<X>,
-    words: (&str, &str),
-    told: &mut Block,
-    touches: &mut Steps<L>,
-) -> Result<(), Memory> {
-    let (word, rest) = words;
-    let (call, rest) = word_and_rest(rest);
-    let (count, text) = number_and_rest(rest);
-    let root = cid_of(text);
-    let mut lines = Block::new(scene.alloc);
-    ask_numbers(scene, (word, call, &root), count, &mut lines, touches)?;
-    tell_bytes(told, scene.alloc, b"> ", lines.as_slice())
-}
-
-// Takes a name out of a directory: `remove NAME CID`.
-fn take_out<X: BlockHash, L: Ledger>(
-    scene: &mut Scene<X>,
-    rest: &str,
-    told: &mut Block,
-    touches: &mut Steps<L>,
-) -> Result<(), Memory> {
-    let (text, rest) = word_and_rest(rest);
-    let name = name_of(scene.alloc, text)?;
-    let root = cid_of(rest);
-    let (alloc, store) = (scene.alloc, &mut scene.store);
-    let left = remove::<_, Murmur3, L>(alloc, store, &Profile::usual(), &root, &name, touches);
-    say_found(alloc, &left, "no such name", told)
-}
-
-/// Makes a call; whether the word names one of these.
-pub fn call<X: BlockHash, L: Ledger>(
-    scene: &mut Scene<X>,
+/// Asks for the first numbered names, as they are, or without each block that decides one: `ask-files HOW COUNT CID`,
+/// `ask-lossy HOW COUNT CID`.
+pub fn ask_files<X: BlockHash, L: Ledger>(
+    call: &mut Call<X, L>,
     word: &str,
     rest: &str,
-    told: &mut Block,
-    touches: &mut Steps<L>,
-) -> Result<bool, Memory> {
-    match word {
-        "trail" | "trail-in" | "find" | "find-in" => look_for(scene, (word, rest), told, touches)?,
-        "ask-files" | "ask-lossy" => ask_files(scene, (word, rest), told, touches)?,
-        "remove" => take_out(scene, rest, told, touches)?,
-        _ => return Ok(false),
+) -> Result<(), Memory> {
+    let (how, rest) = word_and_rest(rest);
+    let (count, text) = number_and_rest(rest);
+    let (alloc, root) = (call.alloc, cid_of(text));
+    let before = mem::replace(call.told, Block::new(alloc));
+    for number in 0..count {
+        let name = numbered_name(alloc, number)?;
+        match word {
+            "ask-files" => ask_usual(call, how, &root, &name)?,
+            _ => ask_lossy(call, how, &root, &name)?,
+        }
     }
-    Ok(true)
+    let lines = mem::replace(call.told, before);
+    tell_bytes(call.told, alloc, b"> ", lines.as_slice())
+}
+
+/// Takes a name out of a directory: `remove NAME CID`.
+pub fn remove<X: BlockHash, L: Ledger>(call: &mut Call<X, L>, rest: &str) -> Said {
+    let (text, rest) = word_and_rest(rest);
+    let (alloc, usual, root) = (call.alloc, Profile::usual(), cid_of(rest));
+    let name = name_of(alloc, text)?;
+    let (store, touches) = (&mut *call.store, &mut *call.touches);
+    match uf_dir::remove::<_, Murmur3, L>(alloc, store, &usual, &root, &name, touches)? {
+        Some(entry) => say_entry(alloc, &entry, call.told)?,
+        None => say(call.told, "no such name")?,
+    }
+    Ok(())
 }

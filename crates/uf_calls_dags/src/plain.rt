@@ -15,8 +15,8 @@ fn text_of(rule: &Rule) -> &str {
     }
 }
 
-// What a rule says that is decided by the first names of a path: `rule LED PATH`.
-fn tell_rule(alloc: Global, rest: &str, told: &mut Block) -> Result<(), Memory> {
+/// What a rule says that is decided by the first names of a path: `rule LED PATH`.
+pub fn rule(alloc: Global, rest: &str, told: &mut Block) -> Result<(), Memory> {
     let (led, text) = number_and_rest(rest);
     let led = led.min(255) as usize;
     let Ok(path) = Path::parse(alloc, text) else {
@@ -40,15 +40,8 @@ fn tell_row(alloc: Global, row: &Row, told: &mut Block) -> Result<(), Memory> {
     say(told, line.as_str())
 }
 
-fn tell_rows(alloc: Global, rows: &Rows, told: &mut Block) -> Result<(), Memory> {
-    for row in rows.as_slice() {
-        tell_row(alloc, row, told)?;
-    }
-    Ok(())
-}
-
-// Two rows, copied: `rows NAME SIZE NAME SIZE`.
-fn copy_rows(alloc: Global, rest: &str, told: &mut Block) -> Result<(), Memory> {
+/// Two rows, copied: `rows NAME SIZE NAME SIZE`.
+pub fn rows(alloc: Global, rest: &str, told: &mut Block) -> Result<(), Memory> {
     let (first, rest) = word_and_rest(rest);
     let (first_size, rest) = number_and_rest(rest);
     let (second, rest) = word_and_rest(rest);
@@ -57,15 +50,8 @@ fn copy_rows(alloc: Global, rest: &str, told: &mut Block) -> Result<(), Memory> 
     add_row(alloc, &mut rows, first, first_size)?;
     add_row(alloc, &mut rows, second, second_size)?;
     let copy = rows.copy()?;
-    tell_rows(alloc, &copy, told)
-}
-
-/// Makes a call; whether the word names one of these.
-pub fn call(alloc: Global, word: &str, rest: &str, told: &mut Block) -> Result<bool, Memory> {
-    match word {
-        "rule" => tell_rule(alloc, rest, told)?,
-        "rows" => copy_rows(alloc, rest, told)?,
-        _ => return Ok(false),
+    for row in copy.as_slice() {
+        tell_row(alloc, row, told)?;
     }
-    Ok(true)
+    Ok(())
 }

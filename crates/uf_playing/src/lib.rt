@@ -1,5 +1,5 @@
-//! What the programs that play rows of calls share: the scene that calls are made over, calls of stores, lines that
-//! say what came of a call, and the parts of a transcript. No other program stands on it.
+//! The program that plays rows of calls: the scene that calls are made over, calls of stores, and lines that say what
+//! came of a call. Only the programs of rows of calls stand on it.
 #![tactic(auto)]
 
 mod playing;
@@ -10,6 +10,6 @@ mod values;
 
 pub use playing::{ByCalls, Caller, Player};
 pub use saying::{say_about, say_amount, say_cid, say_cids, say_debug, say_number};
-pub use scene::Scene;
-pub use stores::{call_store, cid_in, say_fault, say_put, sweep};
+pub use scene::{Call, Said, Scene};
+pub use stores::{call_store, cid_in, say_fault, say_made, say_put, sweep};
 pub use values::{cid_of, codec_of, failing, size_of, small, source_of};

@@ -1,23 +1,24 @@
 //! The parts of a transcript, and their lines.
 
-use crate::scene::{Scene, set};
-use crate::stores::call_memory;
+use crate::scene::{Call, Scene, change};
+use crate::stores::{call_memory, say_made};
 use std::alloc::Global;
 use std::marker::PhantomData;
+use std::mem;
 use std::sync::ledger::Ledger;
 use uf_cid::{Block, BlockHash, Memory, Sha256Hash, Sum8Hash};
-use uf_store::Steps;
+use uf_store::{MemStore, Steps, StoreFault};
 use uf_testing::{Parts, Sheet, Stage, play_lines, say, word_and_rest};
 
 /// The calls that a program makes beside those of a store.
 pub trait Caller {
-    /// Makes the call of a line, and reports what comes of it; whether the line names one of these calls.
+    /// Makes the call that a word names, with what follows the word, and says what comes of it; whether the word names
+    /// one of these calls.
     fn call<X: BlockHash, L: Ledger>(
-        scene: &mut Scene<X>,
-        line: &str,
-        told: &mut Block,
-        touches: &mut Steps<L>,
-    ) -> Result<bool, Memory>;
+        call: &mut Call<X, L>,
+        word: &str,
+        rest: &str,
+    ) -> Result<bool, StoreFault>;
 }
 
 /// How a program plays the parts of a transcript.
@@ -34,100 +35,52 @@ pub trait Player: Caller + Sized {
     }
 }
 
-// Makes a call, and reports what comes of it.
-fn call<C: Caller, X: BlockHash, L: Ledger>(
-    scene: &mut Scene<X>,
+// Makes the call of a line, of the store or of the program, and says what comes of it.
+fn make<C: Caller, X: BlockHash, L: Ledger>(
+    call: &mut Call<X, L>,
     line: &str,
-    told: &mut Block,
-    touches: &mut Steps<L>,
 ) -> Result<(), Memory> {
-    let is_made = call_memory(scene.alloc, &mut scene.store, line, told, touches)?
-        || C::call::<X, L>(scene, line, told, touches)?;
-    if is_made {
-        Ok(())
-    } else {
-        say(told, "no such call")
-    }
+    let (word, rest) = word_and_rest(line);
+    let answer = match call_memory(call, line) {
+        Ok(false) => C::call::<X, L>(call, word, rest),
+        answer => answer,
+    };
+    say_made(call.alloc, &answer, call.told)
 }
 
-// Makes several calls, one after the other: `CALL then CALL`.
-fn call_each<C: Caller, X: BlockHash, L: Ledger>(
-    scene: &mut Scene<X>,
+// What comes of several calls, one after the other: `CALL then CALL`.
+fn told_of<C: Caller, X: BlockHash, L: Ledger>(
+    call: &mut Call<X, L>,
     line: &str,
-    told: &mut Block,
-    touches: &mut Steps<L>,
-) -> Result<(), Memory> {
+) -> Result<Block, Memory> {
+    let before = mem::replace(call.told, Block::new(call.alloc));
     for one in line.split(" then ") {
-        call::<C, X, L>(scene, one, told, touches)?;
+        make::<C, X, L>(call, one)?;
     }
-    Ok(())
+    Ok(mem::replace(call.told, before))
 }
 
 // Makes calls on each prefix of the input over an empty store, and reports what came of them where that isn't what
 // came of the prefix before: `! fronts CALL then CALL`.
-fn call_fronts<C: Caller, X: BlockHash, L: Ledger>(
-    scene: &mut Scene<X>,
+fn make_on_fronts<C: Caller, X: BlockHash, L: Ledger>(
+    call: &mut Call<X, L>,
     line: &str,
-    told: &mut Block,
-    touches: &mut Steps<L>,
 ) -> Result<(), Memory> {
-    let whole = scene.input.copy()?;
-    let mut last = Block::new(scene.alloc);
+    let alloc = call.alloc;
+    let whole = call.input.copy()?;
+    let mut last = Block::new(alloc);
     for end in 0..whole.as_slice().len().saturating_add(1) {
-        call_front::<C, X, L>(
-            scene,
-            &whole.as_slice()[..end],
-            line,
-            (told, &mut last),
-            touches,
-        )?;
+        *call.store = MemStore::new(alloc);
+        *call.input = Block::from_slice(alloc, &whole.as_slice()[..end])?;
+        let now = told_of::<C, X, L>(call, line)?;
+        if now.as_slice() != last.as_slice() {
+            let head = format!(in alloc; "> front {end}\n")?;
+            call.told.extend(head.as_bytes())?;
+            call.told.extend(now.as_slice())?;
+        }
+        last = now;
     }
     Ok(())
-}
-
-// An empty store, and an input of these bytes.
-fn begin_front<X: BlockHash>(scene: &mut Scene<X>, front: &[u8]) -> Result<(), Memory> {
-    scene.input = Block::from_slice(scene.alloc, front)?;
-    let _ = scene.take_store();
-    Ok(())
-}
-
-fn call_front<C: Caller, X: BlockHash, L: Ledger>(
-    scene: &mut Scene<X>,
-    front: &[u8],
-    line: &str,
-    answers: (&mut Block, &mut Block),
-    touches: &mut Steps<L>,
-) -> Result<(), Memory> {
-    let (told, last) = answers;
-    begin_front(scene, front)?;
-    let mut now = Block::new(scene.alloc);
-    call_each::<C, X, L>(scene, line, &mut now, touches)?;
-    tell_new(
-        scene.alloc,
-        front.len(),
-        now.as_slice(),
-        last.as_slice(),
-        told,
-    )?;
-    *last = now;
-    Ok(())
-}
-
-// Reports what came of a prefix, where it isn't what came of the one before.
-fn tell_new(
-    alloc: Global,
-    end: usize,
-    now: &[u8],
-    last: &[u8],
-    told: &mut Block,
-) -> Result<(), Memory> {
-    if now == last {
-        return Ok(());
-    }
-    let head = format!(in alloc; "> front {end}\n")?;
-    told.extend(head.as_bytes())?;
-    told.extend(now)
 }
 
 impl<C: Caller, X: BlockHash> Stage<C> for Scene<X> {
@@ -139,10 +92,20 @@ impl<C: Caller, X: BlockHash> Stage<C> for Scene<X> {
     ) -> Result<(), Memory> {
         let (mark, rest) = word_and_rest(line);
         let (word, more) = word_and_rest(rest);
+        let mut call = Call {
+            alloc: self.alloc,
+            store: &mut self.store,
+            other: &mut self.other,
+            host: &mut self.host,
+            input: &mut self.input,
+            told,
+            touches,
+        };
         match (mark, word) {
-            ("$", _) => call::<C, X, L>(self, rest, told, touches),
-            ("!", "fronts") => call_fronts::<C, X, L>(self, more, told, touches),
-            ("!", _) => set(self, rest, told),
+            ("$", _) => make::<C, X, L>(&mut call, rest),
+            ("!", "fronts") => make_on_fronts::<C, X, L>(&mut call, more),
+            ("!", _) if change(&mut call, rest)? => Ok(()),
+            ("!", _) => say(call.told, "no such line"),
             _ => Ok(()),
         }
     }

@@ -4,18 +4,19 @@ use crate::stores;
 use crate::values::failing;
 use std::alloc::Global;
 use std::mem;
+use std::sync::ledger::Ledger;
 use uf_cid::{Block, BlockHash, Memory};
 use uf_edge::{Calls, MemHost};
-use uf_store::MemStore;
-use uf_testing::{calls, feed, number_of, say, word_and_rest};
+use uf_store::{MemStore, Steps, StoreFault};
+use uf_testing::{calls, feed, number_of, word_and_rest};
 
-/// What calls are made over. What owns several of these leaves at one place, since each way out of it has to be
+/// Two stores, a host and an input. What owns several of these leaves at one place, since each way out of it has to be
 /// proved.
 #[derive(Drop)]
 pub struct Scene<X: BlockHash> {
     pub alloc: Global,
     pub store: MemStore<X>,
-    other: MemStore<X>,
+    pub other: MemStore<X>,
     pub host: MemHost,
     pub input: Block,
 }
@@ -32,49 +33,42 @@ impl<X: BlockHash> Scene<X> {
         }
     }
 
-    /// The store, and the other one.
-    pub fn both(&mut self) -> (&mut MemStore<X>, &mut MemStore<X>) {
-        (&mut self.store, &mut self.other)
-    }
-
     /// Takes the store out, and leaves one in which there is nothing.
     pub fn take_store(&mut self) -> MemStore<X> {
         mem::replace(&mut self.store, MemStore::new(self.alloc))
     }
 }
 
-// Has a host of nothing take the place of this one, which may fail: `host-fails CALL`.
-fn set_host(alloc: Global, host: &mut MemHost, rest: &str) -> Result<(), Memory> {
-    let fails = calls(alloc, failing(number_of(rest)))?;
-    *host = MemHost::new(alloc, fails);
-    Ok(())
+/// What a call is made over, and where what comes of it is told.
+#[derive(Drop)]
+pub struct Call<'a, X: BlockHash, L: Ledger> {
+    pub alloc: Global,
+    pub store: &'a mut MemStore<X>,
+    pub other: &'a mut MemStore<X>,
+    pub host: &'a mut MemHost,
+    pub input: &'a mut Block,
+    pub told: &'a mut Block,
+    pub touches: &'a mut Steps<L>,
 }
 
-// Sets the input, or changes the store.
-fn set_rest<X: BlockHash>(
-    scene: &mut Scene<X>,
-    line: &str,
-    told: &mut Block,
-) -> Result<(), Memory> {
-    let (word, rest) = word_and_rest(line);
-    let is_done = feed(scene.alloc, &mut scene.input, line)?
-        || stores::set(scene.alloc, &mut scene.store, word, rest)?;
-    if is_done {
-        Ok(())
-    } else {
-        say(told, "no such line")
-    }
-}
+/// Nothing, where what came of a call is told; and else the fault of the store, which is told in its place.
+pub type Said = Result<(), StoreFault>;
 
-/// Does what a line after a `!` asks for.
-pub fn set<X: BlockHash>(scene: &mut Scene<X>, line: &str, told: &mut Block) -> Result<(), Memory> {
+/// Does what a line after a `!` asks for, as `host-fails CALL`; whether it asks for a change.
+pub fn change<X: BlockHash, L: Ledger>(call: &mut Call<X, L>, line: &str) -> Result<bool, Memory> {
     let (word, rest) = word_and_rest(line);
     match word {
-        "other" => {
-            mem::swap(&mut scene.store, &mut scene.other);
-            Ok(())
+        "other" => mem::swap(call.store, call.other),
+        "host-fails" => {
+            let fails = calls(call.alloc, failing(number_of(rest)))?;
+            *call.host = MemHost::new(call.alloc, fails);
         }
-        "host-fails" => set_host(scene.alloc, &mut scene.host, rest),
-        _ => set_rest(scene, line, told),
+        _ => {
+            return Ok(
+                feed(call.alloc, call.input, line)?
+                    || stores::set(call.alloc, call.store, word, rest)?,
+            );
+        }
     }
+    Ok(true)
 }

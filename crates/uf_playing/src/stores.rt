@@ -2,6 +2,7 @@
 ghost use Rattle.std.specs.Prelude.{◌≤◌, length};
 
 use crate::saying::{say_about, say_cid, say_debug};
+use crate::scene::{Call, Said};
 use crate::values::{codec_of, size_of};
 use std::alloc::Global;
 use std::sync::ledger::Ledger;
@@ -41,6 +42,19 @@ pub fn say_fault(alloc: Global, fault: &StoreFault, told: &mut Block) -> Result<
     }
 }
 
+/// Says why a call wasn't made: the line names none, or the store has a fault.
+pub fn say_made(
+    alloc: Global,
+    answer: &Result<bool, StoreFault>,
+    told: &mut Block,
+) -> Result<(), Memory> {
+    match answer {
+        Ok(true) => Ok(()),
+        Ok(false) => say(told, "no such call"),
+        Err(fault) => say_fault(alloc, fault, told),
+    }
+}
+
 fn note_of(word: &str) -> Note {
     if word == "head" {
         Note::Head
@@ -58,24 +72,6 @@ pub fn say_put(told: &mut Block, put: Put) -> Result<(), Memory> {
     }
 }
 
-// Looks for a block: `load CODEC BYTES`; or needs it: `need CODEC BYTES`.
-fn look<S: Store, L: Ledger>(
-    alloc: Global,
-    store: &mut S,
-    what: (&str, &Cid),
-    told: &mut Block,
-    touches: &mut Steps<L>,
-) -> Result<(), Memory> {
-    let (word, cid) = what;
-    if word == "load" {
-        return say_debug(alloc, told, &store.load(cid, touches));
-    }
-    match need(store, cid, touches) {
-        Ok(()) => tell_bytes(told, alloc, b"> ", store.block()),
-        Err(fault) => say_fault(alloc, &fault, told),
-    }
-}
-
 // Keeps a block: `save CODEC BYTES`.
 fn save<S: Store, L: Ledger>(
     alloc: Global,
@@ -83,16 +79,14 @@ fn save<S: Store, L: Ledger>(
     rest: &str,
     told: &mut Block,
     touches: &mut Steps<L>,
-) -> Result<(), Memory> {
+) -> Said {
     let (codec, digits) = word_and_rest(rest);
     let bytes = bytes_of(alloc, digits)?;
     if bytes.as_slice().len() > MOST_BYTES {
-        return Err(Memory);
+        return Err(StoreFault::Memory);
     }
-    match save_block(alloc, store, codec_of(codec), bytes.as_slice(), touches) {
-        Ok(cid) => say_cid(told, &cid),
-        Err(fault) => say_fault(alloc, &fault, told),
-    }
+    let cid = save_block(alloc, store, codec_of(codec), bytes.as_slice(), touches)?;
+    Ok(say_cid(told, &cid)?)
 }
 
 // Reads a note: `read-note head` or `read-note pins`.
@@ -116,19 +110,23 @@ fn write_note<S: Store>(store: &mut S, rest: &str, told: &mut Block) -> Result<(
     say_put(told, store.write_note(note_of(which), text.as_bytes()))
 }
 
-/// Makes a call of any store; whether the word names one.
+/// Makes a call of any store; whether the line names one.
 pub fn call_store<S: Store, L: Ledger>(
     alloc: Global,
     store: &mut S,
     line: &str,
     told: &mut Block,
     touches: &mut Steps<L>,
-) -> Result<bool, Memory> {
+) -> Result<bool, StoreFault> {
     let (word, rest) = word_and_rest(line);
     match word {
-        "load" | "need" => {
+        "load" => {
             let cid = cid_in::<S::X>(alloc, rest)?;
-            look(alloc, store, (word, &cid), told, touches)?;
+            say_debug(alloc, told, &store.load(&cid, touches))?;
+        }
+        "need" => {
+            need(store, &cid_in::<S::X>(alloc, rest)?, touches)?;
+            tell_bytes(told, alloc, b"> ", store.block())?;
         }
         "save" => save(alloc, store, rest, told, touches)?,
         "lent" => tell_bytes(told, alloc, b"> ", store.block())?,
@@ -161,36 +159,26 @@ pub fn sweep<S: Sweep>(
     say_debug(alloc, told, &store.sweep(&kept))
 }
 
-// A call of a store that keeps nothing.
-fn call_nothing<X: BlockHash, L: Ledger>(
-    alloc: Global,
-    rest: &str,
-    told: &mut Block,
-    touches: &mut Steps<L>,
-) -> Result<bool, Memory> {
-    let mut store = Discard::<X>::new();
-    call_store(alloc, &mut store, rest, told, touches)
-}
-
-/// Makes a call of a store in memory; whether the word names one.
+/// Makes a call of the store; whether the line names one.
 pub fn call_memory<X: BlockHash, L: Ledger>(
-    alloc: Global,
-    store: &mut MemStore<X>,
+    call: &mut Call<X, L>,
     line: &str,
-    told: &mut Block,
-    touches: &mut Steps<L>,
-) -> Result<bool, Memory> {
+) -> Result<bool, StoreFault> {
     let (word, rest) = word_and_rest(line);
+    let (alloc, told) = (call.alloc, &mut *call.told);
     match word {
-        "count" => tell_count(told, alloc, store.count())?,
-        "writes" => tell_count(told, alloc, store.writes())?,
-        "sweep" => sweep(alloc, store, rest, told)?,
-        "nothing" => return call_nothing::<X, L>(alloc, rest, told, touches),
-        _ => return call_store(alloc, store, line, told, touches),
+        "count" => tell_count(told, alloc, call.store.count())?,
+        "writes" => tell_count(told, alloc, call.store.writes())?,
+        "sweep" => sweep(alloc, call.store, rest, told)?,
+        "nothing" => {
+            return call_store(alloc, &mut Discard::<X>::new(), rest, told, call.touches);
+        }
+        _ => return call_store(alloc, call.store, line, told, call.touches),
     }
     Ok(true)
 }
 
+// The calls that a line has fail, from now on.
 fn kind_of(word: &str) -> Option<CallKind> {
     match word {
         "load-fails" => Some(CallKind::Load),
@@ -258,70 +246,26 @@ fn note<X: BlockHash>(alloc: Global, store: &mut MemStore<X>, line: &str) -> Res
     }
 }
 
-// Has a call of a store fail, from now on; whether the word names one.
-fn set_failing<X: BlockHash>(
-    store: &mut MemStore<X>,
-    word: &str,
-    rest: &str,
-) -> Result<bool, Memory> {
-    match kind_of(word) {
-        Some(kind) => {
-            store.fail_at(kind, number_of(rest))?;
-            Ok(true)
-        }
-        None => Ok(false),
-    }
-}
-
-// Has a store hold blocks, or lose one; whether the word asks for that.
-fn set_blocks<X: BlockHash>(
-    alloc: Global,
-    store: &mut MemStore<X>,
-    word: &str,
-    rest: &str,
-) -> Result<bool, Memory> {
-    match word {
-        "hold" => hold(alloc, store, rest, None)?,
-        "hold-zeros" => hold_zeros(alloc, store, number_of(rest))?,
-        "spoil" => hold(alloc, store, rest, Some(b"x"))?,
-        "lose" => store.forget(&cid_in::<X>(alloc, rest)?),
-        _ => return Ok(false),
-    }
-    Ok(true)
-}
-
-fn stop<X: BlockHash>(alloc: Global, store: &mut MemStore<X>, rest: &str) -> Result<(), Memory> {
-    let left = stopped(alloc, store, rest)?;
-    *store = left;
-    Ok(())
-}
-
-// Has another store take the place of this one, or a note of pins be in it; whether the word asks for that.
-fn set_whole<X: BlockHash>(
-    alloc: Global,
-    store: &mut MemStore<X>,
-    word: &str,
-    rest: &str,
-) -> Result<bool, Memory> {
-    match word {
-        "note" => note(alloc, store, rest)?,
-        "stop" => stop(alloc, store, rest)?,
-        "empty" => *store = MemStore::new(alloc),
-        _ => return Ok(false),
-    }
-    Ok(true)
-}
-
-/// A change of a store; whether the word names one.
+/// Changes a store; whether the word asks for that.
 pub fn set<X: BlockHash>(
     alloc: Global,
     store: &mut MemStore<X>,
     word: &str,
     rest: &str,
 ) -> Result<bool, Memory> {
-    Ok(
-        set_failing(store, word, rest)?
-            || set_blocks(alloc, store, word, rest)?
-            || set_whole(alloc, store, word, rest)?,
-    )
+    if let Some(kind) = kind_of(word) {
+        store.fail_at(kind, number_of(rest))?;
+        return Ok(true);
+    }
+    match word {
+        "hold" => hold(alloc, store, rest, None)?,
+        "hold-zeros" => hold_zeros(alloc, store, number_of(rest))?,
+        "spoil" => hold(alloc, store, rest, Some(b"x"))?,
+        "lose" => store.forget(&cid_in::<X>(alloc, rest)?),
+        "note" => note(alloc, store, rest)?,
+        "stop" => *store = stopped(alloc, store, rest)?,
+        "empty" => *store = MemStore::new(alloc),
+        _ => return Ok(false),
+    }
+    Ok(true)
 }

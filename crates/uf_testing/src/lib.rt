@@ -1,5 +1,5 @@
-//! What the programs that play rows share: words, bytes that lines spell, streams in memory, hosts and stores that are
-//! set up, and the sheet on which rows are reported. No other program stands on it.
+//! The program that plays rows, and what its rows are made of: words, bytes that lines spell, streams in memory, hosts
+//! and stores that are set up, and the sheet on which rows are reported. Only the programs of rows stand on it.
 #![tactic(auto)]
 
 mod feeding;
