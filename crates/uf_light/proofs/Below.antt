@@ -1,20 +1,19 @@
 -- What an accepted CAR shows of its root.
-use Rattle.std.proofs.Common.{◌≡◌, ◌⊎◌, ℕ, List, [], ◌∷◌, Bool, true, false, Option, None, Some, Result, Ok, Err, ap, inl, inr, refl, subst, sym, ◌∙◌}
-use Rattle.std.proofs.lemmas.Bool.{false≢true}
-use Rattle.std.proofs.lemmas.Slice.Eq.{bytes_eq-Decides}
-use Rattle.std.specs.List.{AllByRecursion}
-use Rattle.std.specs.Prelude.{IfOk}
-use Rattle.std.specs.Str.{bytes_eq}
+use Rattle.std.proofs.Common.{◌≡◌, ℕ, List, [], ◌∷◌, Bool, true, false, Option, Some, Result, Ok, Err, subst, sym, ◌∙◌}
+use Rattle.std.proofs.lemmas.List.Elements.{All-contains, All-from_recursion}
+use Rattle.std.specs.Prelude.{Contains, IfOk}
+use Rattle.uf_car.specs.Clashing.{sections_held}
 use Rattle.uf_car.specs.Exporting.{WritesAll}
-use Rattle.uf_cid.specs.Blocks.{Held, IsClash}
+use Rattle.uf_cid.specs.Blocks.{Held}
 use Rattle.uf_cid.specs.declared.cid.Cid.{Cid}
-use Rattle.uf_dir.specs.Roots.{IsRootUnder}
 use Rattle.uf_edge.specs.Streams.{Told as SinkTold}
+use Rattle.uf_store.specs.Contents.{Told}
+use Rattle.uf_store.specs.Keeping.{Holds}
 use Rattle.uf_store.specs.declared.store.StoreFault.{StoreFault}
-use Rattle.uf_tree.specs.Roles.{IsCanonicalDirectory}
 use Rattle.uf_tree.specs.declared.nodes.Entry.{Entry}
-use Rattle.uf_light.specs.Below.{AreDirectories, HasDirectory, HasNames, IsAboveNames, IsSeenAs, MayEnd}
+use Rattle.uf_light.specs.Below.{HasDirectory, HasNames, IsAboveNames, IsDirectoryAmong, IsSeenAs, MayEnd}
 use Rattle.uf_light.specs.Met.{wanted_of}
+use Rattle.uf_light.specs.Sections.{sections_told}
 use Rattle.uf_light.specs.Sending.{SendsAbsent}
 use Rattle.uf_light.specs.declared.fault.LightFault.{LightFault}
 use Rattle.uf_light.specs.declared.fault.LightFault.TheVariants as fault
@@ -22,6 +21,7 @@ use Rattle.uf_light.specs.declared.met.PathEnd.{PathEnd}
 use Rattle.uf_light.specs.declared.met.PathEnd.TheVariants.{There, Nothing, Behind}
 use Rattle.uf_light.specs.declared.thing.TypedEntry.{TypedEntry}
 use Rattle.uf_light.specs.declared.thing.TypedEntry.TheVariants.{File as FileAt, Folder as FolderAt}
+use Rattle.uf_light.proofs.Saving.{section-of}
 
 -- ---- where a path may end
 
@@ -55,13 +55,10 @@ pub if-ok : {P : Type 0} (r : Result ℕ LightFault) → P → IfOk r (λ n. P)
 if-ok (Ok n) h = h
 if-ok (Err f) h = tt
 
-module _ (X : List ℕ → List ℕ) (root : Cid) where
-  pub directory-of : (bytes : List ℕ) → IsRootUnder X root bytes → HasDirectory X root
-  directory-of bytes h = record { block = bytes; digest = h.digest; canonical = h.canonical }
-
+module _ (X : List ℕ → List ℕ) (told : Told) (root : Cid) where
   -- what is written of a path with names begins at a directory
-  pub follows : (absent : Bool) (thing : TypedEntry) (names : List (List ℕ)) (met : PathEnd) (o : Option Entry) → IsSeenAs X root thing → MayEnd thing names met
-      → ◌≡◌ {A = Result (Option Entry) LightFault} (wanted_of absent met) (Ok o) → HasNames X root names
+  pub follows : (absent : Bool) (thing : TypedEntry) (names : List (List ℕ)) (met : PathEnd) (o : Option Entry) → IsSeenAs X told root thing → MayEnd thing names met
+      → ◌≡◌ {A = Result (Option Entry) LightFault} (wanted_of absent met) (Ok o) → HasNames X told root names
   follows absent thing [] met o seen ends is = tt
   follows absent (FolderAt e) (name ∷ names) met o seen ends is = seen
   follows absent (FileAt e) (name ∷ names) (There thing) o seen ends is = absurd ends
@@ -69,19 +66,25 @@ module _ (X : List ℕ → List ℕ) (root : Cid) where
   follows true (FileAt e) (name ∷ names) (Behind place) o seen ends is = absurd (let no : ◌≡◌ {A = Result (Option Entry) LightFault} (Err (fault.NotADirectory place)) (Ok o) = is in cc)
   follows false (FileAt e) (name ∷ names) (Behind place) o seen ends is = absurd (let no : ◌≡◌ {A = Result (Option Entry) LightFault} (Err (fault.NotADirectory place)) (Ok o) = is in cc)
 
-  -- ---- the sections
+-- ---- the sections
 
-  same-or-clash : (d : HasDirectory X root) (bytes : List ℕ) → X bytes ≡ root.digest → IsCanonicalDirectory None true bytes ⊎ ((other : List ℕ) × IsClash X bytes other)
-  same-or-clash d bytes digest = by (bytes_eq bytes d.block) refl
-    where
-      by : (t : Bool) → bytes_eq bytes d.block ≡ t → IsCanonicalDirectory None true bytes ⊎ ((other : List ℕ) × IsClash X bytes other)
-      by true e = inl (subst (IsCanonicalDirectory None true) (sym ((bytes_eq-Decides bytes d.block).0 e)) d.canonical)
-      by false e = inr (d.block, record { differ = λ alike. false≢true (sym e ∙ (bytes_eq-Decides bytes d.block).1 alike); one_digest = digest ∙ sym d.digest })
+module _ (X : List ℕ → List ℕ) (root : Cid) (sections : List Held) (all : Holds (sections_told sections) sections) where
+  abbrev IsHeld : Held → Type 0
+  IsHeld b = sections_held sections b.0 ≡ Some b.1
 
-  are-directories : (d : HasDirectory X root) (sections : List Held) → AllByRecursion (λ (b : Held). X b.1 ≡ b.0.digest) sections → AreDirectories X root sections
-  are-directories d [] h = tt
-  are-directories d (b ∷ sections) h = (λ is. same-or-clash d b.1 (h.0 ∙ ap (λ (c : Cid). c.digest) is), are-directories d sections h.1)
+  -- a section's block is held under its CID
+  held-there : (bytes : List ℕ) → Contains sections (root, bytes) → IsHeld (root, bytes)
+  held-there bytes there = All-contains IsHeld sections (root, bytes) (All-from_recursion IsHeld sections all) there
 
-  pub above-names : (names : List (List ℕ)) (sections : List Held) → AllByRecursion (λ (b : Held). X b.1 ≡ b.0.digest) sections → HasNames X root names → IsAboveNames X root names sections
-  above-names [] sections digests has = tt
-  above-names (name ∷ names) sections digests has = (has, are-directories has sections digests)
+  among : (d : HasDirectory X (sections_told sections) root) → IsDirectoryAmong X root sections
+  among d = record {
+    block = d.0;
+    there = section-of sections root d.0 d.1.is_held;
+    digest = d.1.digest;
+    canonical = d.1.canonical;
+    only = λ other there. (let e : Some other ≡ Some d.0 = sym (held-there other there) ∙ d.1.is_held in cc);
+  }
+
+  pub above-names : (names : List (List ℕ)) → HasNames X (sections_told sections) root names → IsAboveNames X root names sections
+  above-names [] has = tt
+  above-names (name ∷ names) has = among has

@@ -7,6 +7,7 @@ use Rattle.uf_store.specs.declared.store.Role.TheVariants.{Directory, Shard, Fil
 use Rattle.uf_store.specs.declared.store.StoreFault.{StoreFault}
 use Rattle.uf_store.specs.declared.store.StoreFault.TheVariants.{Failed, Damaged, Missing, BadBlock, Clash, Memory}
 use Rattle.uf_store.specs.Calls.{OnlyReads}
+use Rattle.uf_store.specs.Contents.{Told}
 use Rattle.uf_store.specs.Faults.{Shows}
 use Rattle.uf_store.specs.Seen.{Seen}
 use Rattle.uf_tree.specs.Roles.{IsCanonicalDirectory, Basic, Sharded, FileRoot}
@@ -48,8 +49,8 @@ module _ (X : List ℕ → List ℕ) (N : List ℕ → ℕ) where
   under-bad root (FolderAt e) r role bytes h = record { bad = h.bad; required = λ is node. requires-below root e.cid (X bytes) r (h.required is node) }
 
   -- what a look at a CID met
-  pub met-required : (root cid : Cid) (bytes : List ℕ) → IsRootUnder X cid bytes → RequiresDirectory X root cid.digest
-  met-required root cid bytes h = AsMet bytes h.digest h.canonical
+  pub met-required : (root : Cid) (told : Told) (cid : Cid) (bytes : List ℕ) → IsRootUnder X told cid bytes → RequiresDirectory X root cid.digest
+  met-required root told cid bytes h = AsMet bytes h.digest h.canonical
 
   -- what a directory's call blames
   pub way-shows : (root : Cid) (h : ℕ) (f : StoreFault) (a b : Seen) → BlamesOnly root (Some f) → Shows X (dirs.IsBad N h None) f a b → Shows X (IsBadOnPath X N root) f a b

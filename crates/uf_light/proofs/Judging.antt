@@ -24,13 +24,15 @@ use Rattle.uf_light.specs.declared.fault.LightFault.{LightFault}
 use Rattle.uf_light.specs.declared.fault.LightFault.TheVariants as fault
 use Rattle.uf_light.specs.Answers.{Accepts, ClashesWithPlan, IsOwnFault, light_fault}
 use Rattle.uf_light.specs.Bad.{IsBadLight}
+use Rattle.uf_light.specs.Below.{HasNames, IsAboveNames}
 use Rattle.uf_light.specs.Checking.{keeping_fault, reading_fault}
 use Rattle.uf_light.specs.Sending.{ComesFirst}
 use Rattle.uf_light.specs.Opening.{Opens}
 use Rattle.uf_light.specs.Sections.{ShownBySections, sections_told}
 use Rattle.uf_light.specs.Standing.{IsAgreedAt, IsTreeAt}
 use Rattle.uf_light.proofs.Agreeing.{agree-or-clash}
-use Rattle.uf_light.proofs.Saving.{digests-all, section-of}
+use Rattle.uf_light.proofs.Below.{above-names}
+use Rattle.uf_light.proofs.Saving.{digests-all, holds-all, section-of}
 
 stands : (a b : ℕ) → a ≡ 0 → b ≡ a → Stood a b
 stands a b zero same = omega (arith, zero, same)
@@ -91,9 +93,17 @@ module _ (X : List ℕ → List ℕ) (N : List ℕ → ℕ) where
     told-is : mid.told ≡ sections_told r.sections
     told-is = opens.says.1
 
+    kept : mid.told ≡ changed (with_saves r.sections) start.told
+    kept = told-is ∙ sym (ap (changed (with_saves r.sections)) empty)
+
     -- each section has its CID's digest
-    pub digested : AllByRecursion (λ (b : Held). X b.1 ≡ b.0.digest) r.sections
-    digested = digests-all X start.told mid.told empty saves r.sections (told-is ∙ sym (ap (changed (with_saves r.sections)) empty))
+    digested : AllByRecursion (λ (b : Held). X b.1 ≡ b.0.digest) r.sections
+    digested = digests-all X start.told mid.told empty saves r.sections kept
+
+    -- what is held where there are names below the root is among the sections
+    pub shows-root : (names : List (List ℕ)) → HasNames X mid.told root names → IsAboveNames X root names r.sections
+    shows-root names has =
+        above-names X root r.sections (holds-all X start.told mid.told empty saves r.sections kept) names (subst (λ (told : Told). HasNames X told root names) told-is has)
 
     fresh : mid.faults ≡ 0
     fresh = calm.faults ∙ ap (λ (s : Seen). s.faults) new

@@ -1,9 +1,10 @@
 -- What `check` shows below a root that may be that of no tree.
-use Rattle.std.specs.Prelude.{◌≡◌, ◌⊎◌, ℕ, List, [], ◌∷◌, true, ⊤}
-use Rattle.std.specs.List.{AllByRecursion}
+use Rattle.std.specs.Prelude.{◌≡◌, ℕ, List, [], ◌∷◌, Contains, true, ⊤}
 use Rattle.std.specs.declared.option.Option.TheVariants.{None}
-use Rattle.uf_cid.specs.Blocks.{Held, IsClash}
+use Rattle.uf_cid.specs.Blocks.{Held}
 use Rattle.uf_cid.specs.declared.cid.Cid.{Cid}
+use Rattle.uf_dir.specs.Roots.{IsRootUnder}
+use Rattle.uf_store.specs.Contents.{Told}
 use Rattle.uf_tree.specs.Roles.{IsCanonicalDirectory}
 use Rattle.uf_light.specs.declared.met.PathEnd.{PathEnd}
 use Rattle.uf_light.specs.declared.met.PathEnd.TheVariants.{There, Nothing, Behind}
@@ -18,12 +19,10 @@ MayEnd (File e) (name ∷ names) (There thing) = ⊥
 MayEnd (File e) (name ∷ names) (Nothing place) = ⊥
 MayEnd (File e) (name ∷ names) (Behind place) = ⊤
 
-module _ (hash : List ℕ → List ℕ) (root : Cid) where
-  -- a block that is canonical as the root of a directory has this CID's digest
-  pub record HasDirectory : Type 0 where
-    pub block : List ℕ
-    pub digest : hash block ≡ root.digest
-    pub canonical : IsCanonicalDirectory None true block
+module _ (hash : List ℕ → List ℕ) (told : Told) (root : Cid) where
+  -- a block is canonical as the root of a directory, has this CID's digest, and is held under it, where the store tells
+  abbrev pub HasDirectory : Type 0
+  HasDirectory = (block : List ℕ) × IsRootUnder hash told root block
 
   -- what is under this CID is a file, or there is such a block
   abbrev pub IsSeenAs : TypedEntry → Type 0
@@ -35,12 +34,17 @@ module _ (hash : List ℕ → List ℕ) (root : Cid) where
   HasNames [] = ⊤
   HasNames (name ∷ names) = HasDirectory
 
-  -- each section with this CID is canonical as the root of a directory, or another block has its digest
-  abbrev pub AreDirectories : List Held → Type 0
-  AreDirectories sections = AllByRecursion (λ (section : Held). section.0 ≡ root
-      → IsCanonicalDirectory None true section.1 ⊎ ((other : List ℕ) × IsClash hash section.1 other)) sections
+module _ (hash : List ℕ → List ℕ) (root : Cid) where
+  -- a section has this CID, its block has the CID's digest and is canonical as the root of a directory, and no section
+  -- with this CID has another block
+  pub record IsDirectoryAmong (sections : List Held) : Type 0 where
+    pub block : List ℕ
+    pub there : Contains sections (root, block)
+    pub digest : hash block ≡ root.digest
+    pub canonical : IsCanonicalDirectory None true block
+    pub only : (other : List ℕ) → Contains sections (root, other) → other ≡ block
 
-  -- what an accepted CAR shows of a root with names below it: it is that of a directory, and so are its sections
+  -- what an accepted CAR shows of a root with names below it
   abbrev pub IsAboveNames : List (List ℕ) → List Held → Type 0
   IsAboveNames [] sections = ⊤
-  IsAboveNames (name ∷ names) sections = HasDirectory × AreDirectories sections
+  IsAboveNames (name ∷ names) sections = IsDirectoryAmong sections

@@ -58,8 +58,8 @@ pub fn check<X: BlockHash, N: NameHash, I: Source, O: Sink, L: Ledger>(
     ensures first { ChecksFirst X.block32 N.name64 asked.now limit (I.left input.old) result (O.holds out.old)
         (O.holds out.new) }
 
-    // Whatever the root is of: with names below it, it is that of a directory, and so are its sections, unless two
-    // blocks clash.
+    // Whatever the root is of: with names below it, a section of its CID is there, whose block is canonical as the root
+    // of a directory, and each section of that CID has this block.
     ensures root { (bytes : List ℕ) → I.left input.old ≡ Some bytes
         → IfOk result (λ _. IsAboveNames X.block32 asked.now.root asked.now.names
         (car_read X.block32 limit bytes).sections) }

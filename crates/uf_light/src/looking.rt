@@ -77,7 +77,7 @@ pub fn thing_of<S: Store, N: NameHash, L: Ledger>(
     ensures thing { FindsMet S.X.block32 N.name64 entry.now.cid (S.seen store.old) (S.seen store.new) result }
     ensures reads { OnlyReads S.X.block32 IsBadRoot (fault_in result) (S.seen store.old) (S.seen store.new) }
     ensures required { (root : TheCid) → IfOk result (IsRequired S.X.block32 root) }
-    ensures seen { IfOk result (IsSeenAs S.X.block32 entry.now.cid) }
+    ensures seen { IfOk result (IsSeenAs S.X.block32 (S.seen store.old).told entry.now.cid) }
     ensures touched { CountsUp (fault_in result) touches.old touches.new }
     ensures few { touches.new ≤ touches.old + 1 }
 {

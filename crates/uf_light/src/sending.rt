@@ -48,7 +48,7 @@ pub fn show<S: Store, N: NameHash, O: Sink, L: Ledger>(
         (light_fault result) (S.seen store.old) (S.seen store.new) }
     ensures counts { CountsSink (is_light_sink result) (O.faults out.old) (O.faults out.new) }
     ensures behind { IfErr result IsNoCar }
-    ensures root { IfOk result (λ _. HasNames S.X.block32 root.now names.now) }
+    ensures root { IfOk result (λ _. HasNames S.X.block32 (S.seen store.old).told root.now names.now) }
     ensures line { absent ≡ true
         → IfOk result (λ n. WritesAll (absent_text names.now) n (O.holds out.old) (O.holds out.new)) }
 {

@@ -96,8 +96,8 @@ module _ (X : List ℕ → List ℕ) (N : List ℕ → ℕ) where
   under-bad profile root (FolderAt e links) r role bytes h = bad-below profile root e.cid r role bytes h
 
   -- what a look at an entry met
-  pub met-required : (root : Cid) (e : Entry) (bytes : List ℕ) → IsRootUnder X e.cid bytes → RequiresDirectory X root e.cid.digest
-  met-required root e bytes h = AsMet bytes h.digest h.canonical
+  pub met-required : (root : Cid) (told : Told) (e : Entry) (bytes : List ℕ) → IsRootUnder X told e.cid bytes → RequiresDirectory X root e.cid.digest
+  met-required root told e bytes h = AsMet bytes h.digest h.canonical
 
   -- what an edit or the making of a directory answered
   pub made-required : (profile : Option Profile) (root cid : Cid) → IsRootCid X profile cid → RequiresDirectory X root cid.digest

@@ -19,8 +19,7 @@ use Rattle.uf_tree.specs.Validity.{IsHash}
 use Rattle.uf_light.proofs.Accepted.{not-counted, opening-stops, proof-is-accepted, proof-is-opened, reads-behind, sink-as}
 use Rattle.uf_light.specs.Sending.{ComesFirst}
 use Rattle.uf_light.proofs.First.{first-still}
-use Rattle.uf_light.proofs.Below.{above-names}
-use Rattle.uf_light.proofs.Judging.{digested, judges-err, judges-first, judges-front, judges-ok, keeps-own, reads-own, shows-err}
+use Rattle.uf_light.proofs.Judging.{judges-err, judges-first, judges-front, judges-ok, keeps-own, reads-own, shows-err, shows-root}
 use Rattle.uf_light.proofs.checking.check.Goals as goal
 
 pub returns-in-Err-show-clause-tree : goal.returns-in-Err-show-clause-tree
@@ -112,9 +111,8 @@ returns-clause-first g c = λ bytes p t height left is tall. inr tt
 pub returns-clause-root : goal.returns-clause-root
 returns-clause-root g c = λ bytes left.
     let X = g.X.BlockHash.block32 in let N = g.N.NameHash.name64 in let car = car_read X c.args.limit bytes in let root = c.args.asked.now.root in
-    above-names X root c.args.asked.now.names car.sections
-    (digested X N root car (memory_seen c.new-store.result) (memory_seen c.open.new.store) (memory_seen c.show.new.store) c.new-store.ensures.seen c.in-Ok.ensures.cause c.in-Ok.ensures.saves (c.in-Ok.ensures.opens bytes left (ap (λ (s : Seen). s.told) c.new-store.ensures.seen)))
-    (subst (λ l. HasNames X root l) c.as_slice-names.ensures c.in-Ok-show.ensures.root)
+    shows-root X N root car (memory_seen c.new-store.result) (memory_seen c.open.new.store) (memory_seen c.show.new.store) c.new-store.ensures.seen c.in-Ok.ensures.cause c.in-Ok.ensures.saves (c.in-Ok.ensures.opens bytes left (ap (λ (s : Seen). s.told) c.new-store.ensures.seen))
+    c.args.asked.now.names (subst (λ l. HasNames X (memory_seen c.open.new.store).told root l) c.as_slice-names.ensures c.in-Ok-show.ensures.root)
 
 pub returns-clause-line : goal.returns-clause-line
 returns-clause-line g c = λ absent.

@@ -3,7 +3,6 @@ use Rattle.std.proofs.lemmas.Result.{err_from_is_err_and}
 use Rattle.uf_dir.specs.Roots.{HasRoot}
 use Rattle.uf_dir.specs.declared.kind.EntryKind.{EntryKind}
 use Rattle.uf_tree.specs.Validity.{IsHash}
-use Rattle.uf_light.proofs.Below.{directory-of}
 use Rattle.uf_light.proofs.Blaming.{met-required}
 use Rattle.uf_light.proofs.Seeing.{IsKindOf, kind-says}
 use Rattle.uf_light.proofs.looking.thing_of.Goals as goal
@@ -31,10 +30,10 @@ returns-in-File-clause-thing g c = λ p t s stood.
 
 pub returns-in-Folder-clause-required : goal.returns-in-Folder-clause-required
 returns-in-Folder-clause-required g c = λ root.
-    let X = g.S.X.BlockHash.block32 in let lent = (g.S.Store.seen c.kind_of.new.store).lent in
-    met-required X g.N.NameHash.name64 root c.args.entry.now.cid lent (subst (λ (k : EntryKind). HasRoot X c.args.entry.now.cid lent k) c.in-Folder.is c.in_ok-kind.ensures.met)
+    let X = g.S.X.BlockHash.block32 in let told = (g.S.Store.seen c.args.store.now).told in let lent = (g.S.Store.seen c.kind_of.new.store).lent in
+    met-required X g.N.NameHash.name64 root told c.args.entry.now.cid lent (subst (λ (k : EntryKind). HasRoot X told c.args.entry.now.cid lent k) c.in-Folder.is c.in_ok-kind.ensures.met)
 
 pub returns-in-Folder-clause-seen : goal.returns-in-Folder-clause-seen
 returns-in-Folder-clause-seen g c =
-    let X = g.S.X.BlockHash.block32 in let lent = (g.S.Store.seen c.kind_of.new.store).lent in
-    directory-of X c.args.entry.now.cid lent (subst (λ (k : EntryKind). HasRoot X c.args.entry.now.cid lent k) c.in-Folder.is c.in_ok-kind.ensures.met)
+    let X = g.S.X.BlockHash.block32 in let told = (g.S.Store.seen c.args.store.now).told in let lent = (g.S.Store.seen c.kind_of.new.store).lent in
+    (lent, subst (λ (k : EntryKind). HasRoot X told c.args.entry.now.cid lent k) c.in-Folder.is c.in_ok-kind.ensures.met)

@@ -173,11 +173,11 @@ returns-in-None-clause-first g c = λ p t height s stood tall. first-absent (abs
 
 pub returns-in-Some-clause-root : goal.returns-in-Some-clause-root
 returns-in-Some-clause-root g c =
-    if-ok c.send_file.result (follows g.S.X.BlockHash.block32 c.args.root.now c.args.absent c.in_ok-thing.thing c.args.names.now c.in_ok-met.met c.in_ok-file.field-0 c.in_ok-thing.ensures.seen c.in_ok-met.ensures.ends (sym c.in_ok-file.ensures))
+    if-ok c.send_file.result (follows g.S.X.BlockHash.block32 (g.S.Store.seen c.args.store.now).told c.args.root.now c.args.absent c.in_ok-thing.thing c.args.names.now c.in_ok-met.met c.in_ok-file.field-0 c.in_ok-thing.ensures.seen c.in_ok-met.ensures.ends (sym c.in_ok-file.ensures))
 
 pub returns-in-None-clause-root : goal.returns-in-None-clause-root
 returns-in-None-clause-root g c =
-    if-ok c.send_absent.result (follows g.S.X.BlockHash.block32 c.args.root.now c.args.absent c.in_ok-thing.thing c.args.names.now c.in_ok-met.met c.in_ok-file.field-0 c.in_ok-thing.ensures.seen c.in_ok-met.ensures.ends (sym c.in_ok-file.ensures))
+    if-ok c.send_absent.result (follows g.S.X.BlockHash.block32 (g.S.Store.seen c.args.store.now).told c.args.root.now c.args.absent c.in_ok-thing.thing c.args.names.now c.in_ok-met.met c.in_ok-file.field-0 c.in_ok-thing.ensures.seen c.in_ok-met.ensures.ends (sym c.in_ok-file.ensures))
 
 pub returns-in-Some-clause-line : goal.returns-in-Some-clause-line
 returns-in-Some-clause-line g c = λ absent.
