@@ -1,8 +1,9 @@
 //! A CID pinned.
-ghost use Rattle.std.specs.Prelude.{◌≡◌, Err, Some};
-ghost use Rattle.uf_store.specs.Contents.{Contents};
+ghost use Rattle.std.specs.Prelude.{◌≡◌, ◌≤◌, ◌+◌, ◌∷◌, [], Err, IfOk, Some, length};
+ghost use Rattle.uf_store.specs.Contents.{Contents, held_at};
 ghost use Rattle.uf_store.specs.Faults.{NoneIsBad, Shown};
 ghost use Rattle.uf_pins.specs.Calls.{AddsPin, GivesText, WritesMore, pin_fault};
+ghost use Rattle.uf_pins.specs.Reach.{reach};
 ghost use Rattle.uf_pins.specs.Texts.{ArePins};
 ghost use Rattle.uf_pins.specs.declared.fault.PinFault.TheVariants as fault;
 
@@ -31,6 +32,9 @@ pub fn add_pin<S: Store, L: Ledger>(
         → AddsPin t most cid.now result (S.seen store.new).told }
     ensures unread { result ≡ Err fault.BadPins → (S.seen store.new).told ≡ (S.seen store.old).told }
     ensures writes { WritesMore result (S.seen store.old).told (S.seen store.new).told }
+    ensures touches { touches.new ≤ touches.old + most }
+    ensures each { (t : Contents) → (S.seen store.old).told ≡ Some t
+        → IfOk (reach (held_at t) most (cid.now ∷ [])) (λ list. touches.new ≤ touches.old + length list) }
     ensures cause { Shown S.X.block32 NoneIsBad (pin_fault result) (S.seen store.old) (S.seen store.new) }
 {
     let pins = list_pins(alloc, store)?;

@@ -1,9 +1,12 @@
 //! Blocks that nothing keeps, let go.
-ghost use Rattle.std.specs.Prelude.{◌≡◌, Some};
-ghost use Rattle.uf_store.specs.Contents.{Contents};
+ghost use Rattle.std.specs.Prelude.{◌≡◌, ◌≤◌, ◌+◌, ◌++◌, List, IfOk, Some, length};
+ghost use Rattle.uf_cid.specs.declared.cid.Cid.{Cid as TheCid};
+ghost use Rattle.uf_store.specs.Contents.{Contents, held_at};
 ghost use Rattle.uf_store.specs.Faults.{NoneIsBad, Shown};
 ghost use Rattle.uf_pins.specs.Calls.{pin_fault};
 ghost use Rattle.uf_pins.specs.Collecting.{CollectsAll, KeepsReach};
+ghost use Rattle.uf_pins.specs.Notes.{Lists};
+ghost use Rattle.uf_pins.specs.Reach.{reach};
 
 use crate::below::reach_all;
 use crate::writing::sync;
@@ -27,6 +30,9 @@ pub fn collect<S: Sweep, L: Ledger>(
         → CollectsAll t most roots.now result (S.seen store.new).told }
     ensures kept { (t : Contents) → (S.seen store.old).told ≡ Some t
         → KeepsReach t most roots.now (S.seen store.new).told }
+    ensures touches { touches.new ≤ touches.old + most }
+    ensures each { (t : Contents) (pins : List TheCid) → (S.seen store.old).told ≡ Some t → Lists t.notes.pins pins
+        → IfOk (reach (held_at t) most (roots.now ++ pins)) (λ list. touches.new ≤ touches.old + length list) }
     ensures cause { Shown S.X.block32 NoneIsBad (pin_fault result) (S.seen store.old) (S.seen store.new) }
 {
     let pins = list_pins(alloc, store)?;

@@ -1,10 +1,9 @@
-use Rattle.std.proofs.Common.{Err, Ok, refl, ap, ◌∙◌}
+use Rattle.std.proofs.Common.{Err, refl, ap, ◌∙◌}
 use Rattle.std.proofs.lemmas.Result.{err_from_is_err_and}
 use Rattle.uf_store.specs.Contents.{changed, with_sync}
-use Rattle.uf_store.specs.declared.store.StoreFault.TheVariants as store
-use Rattle.uf_pins.specs.declared.fault.PinFault.TheVariants as fault
-use Rattle.uf_pins.specs.Collecting.{CollectsAll, KeepsReach}
+use Rattle.uf_pins.specs.Collecting.{CollectsAll}
 use Rattle.uf_pins.proofs.Collected.{keeps-drops, keeps-fails, keeps-none, keeps-same, note-stops, reach-stops, sweep-drops, sweep-fails, sweep-none, sync-stops}
+use Rattle.uf_pins.proofs.Touched.{each-kept}
 use Rattle.uf_pins.proofs.collecting.collect.Goals as goal
 
 pub returns-in_err-pins-clause-collected : goal.returns-in_err-pins-clause-collected
@@ -28,6 +27,11 @@ returns-in_err-kept-clause-collected g c t is =
 pub returns-in_err-kept-clause-kept : goal.returns-in_err-kept-clause-kept
 returns-in_err-kept-clause-kept g c t is = keeps-same t c.args.most c.args.roots.now _ (c.in_err-kept.ensures.reads.told ∙ c.in_ok-pins.ensures.reads.told ∙ is)
 
+pub returns-in_err-kept-clause-each : goal.returns-in_err-kept-clause-each
+returns-in_err-kept-clause-each g c t pins is listed =
+    let a = c.in_ok-pins.ensures.reads.told ∙ is in
+    each-kept t c.args.most c.args.roots.now c.in_ok-pins.pins pins _ _ (c.in_ok-pins.ensures.pins t is) listed (c.in_err-kept.ensures.each t a)
+
 pub returns-in_err-sync-clause-collected : goal.returns-in_err-sync-clause-collected
 returns-in_err-sync-clause-collected g c t is =
     let b = c.in_ok-kept.ensures.reads.told ∙ c.in_ok-pins.ensures.reads.told ∙ is in
@@ -38,6 +42,11 @@ returns-in_err-sync-clause-collected g c t is =
 
 pub returns-in_err-sync-clause-kept : goal.returns-in_err-sync-clause-kept
 returns-in_err-sync-clause-kept g c t is = keeps-same t c.args.most c.args.roots.now _ (c.in_err-sync.ensures.err ∙ c.in_ok-kept.ensures.reads.told ∙ c.in_ok-pins.ensures.reads.told ∙ is)
+
+pub returns-in_err-sync-clause-each : goal.returns-in_err-sync-clause-each
+returns-in_err-sync-clause-each g c t pins is listed =
+    let a = c.in_ok-pins.ensures.reads.told ∙ is in
+    each-kept t c.args.most c.args.roots.now c.in_ok-pins.pins pins _ _ (c.in_ok-pins.ensures.pins t is) listed (c.in_ok-kept.ensures.each t a)
 
 pub returns-in-Done-clause-collected : goal.returns-in-Done-clause-collected
 returns-in-Done-clause-collected g c t is =
@@ -51,6 +60,11 @@ returns-in-Done-clause-kept g c t is =
     let b = c.in_ok-kept.ensures.reads.told ∙ a in
     keeps-drops t c.args.most c.args.roots.now _ c.in_ok-pins.pins c.in_ok-kept.kept (c.in_ok-pins.ensures.pins t is) (c.in_ok-kept.ensures.reached t a) _ _ (c.in_ok-sync.ensures.ok ∙ ap (changed with_sync) b) refl _ c.in-Done.ensures.swept
 
+pub returns-in-Done-clause-each : goal.returns-in-Done-clause-each
+returns-in-Done-clause-each g c t pins is listed =
+    let a = c.in_ok-pins.ensures.reads.told ∙ is in
+    each-kept t c.args.most c.args.roots.now c.in_ok-pins.pins pins _ _ (c.in_ok-pins.ensures.pins t is) listed (c.in_ok-kept.ensures.each t a)
+
 pub returns-in-Failed-clause-collected : goal.returns-in-Failed-clause-collected
 returns-in-Failed-clause-collected g c t is =
     let a = c.in_ok-pins.ensures.reads.told ∙ is in
@@ -63,6 +77,11 @@ returns-in-Failed-clause-kept g c t is =
     let b = c.in_ok-kept.ensures.reads.told ∙ a in
     keeps-fails t c.args.most c.args.roots.now _ c.in_ok-pins.pins c.in_ok-kept.kept (c.in_ok-pins.ensures.pins t is) (c.in_ok-kept.ensures.reached t a) _ _ (c.in_ok-sync.ensures.ok ∙ ap (changed with_sync) b) refl c.in-Failed.ensures.swept
 
+pub returns-in-Failed-clause-each : goal.returns-in-Failed-clause-each
+returns-in-Failed-clause-each g c t pins is listed =
+    let a = c.in_ok-pins.ensures.reads.told ∙ is in
+    each-kept t c.args.most c.args.roots.now c.in_ok-pins.pins pins _ _ (c.in_ok-pins.ensures.pins t is) listed (c.in_ok-kept.ensures.each t a)
+
 pub returns-clause-collected : goal.returns-clause-collected
 returns-clause-collected g c t is =
     let a = c.in_ok-pins.ensures.reads.told ∙ is in
@@ -74,3 +93,8 @@ returns-clause-kept g c t is =
     let a = c.in_ok-pins.ensures.reads.told ∙ is in
     let b = c.in_ok-kept.ensures.reads.told ∙ a in
     keeps-none t c.args.most c.args.roots.now _ c.in_ok-pins.pins c.in_ok-kept.kept (c.in_ok-pins.ensures.pins t is) (c.in_ok-kept.ensures.reached t a) _ _ (c.in_ok-sync.ensures.ok ∙ ap (changed with_sync) b) refl c.in-Memory.ensures.swept
+
+pub returns-clause-each : goal.returns-clause-each
+returns-clause-each g c t pins is listed =
+    let a = c.in_ok-pins.ensures.reads.told ∙ is in
+    each-kept t c.args.most c.args.roots.now c.in_ok-pins.pins pins _ _ (c.in_ok-pins.ensures.pins t is) listed (c.in_ok-kept.ensures.each t a)
