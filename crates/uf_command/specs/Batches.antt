@@ -19,35 +19,18 @@ use Rattle.uf_command.specs.declared.types.Refusal.TheVariants as refusal
 -- the command may stand in a batch: it neither reads the input nor writes to the host, has no other store, and drops no
 -- block
 abbrev pub is_for_batch : Cmd → Bool
-is_for_batch (cmd.Init profile) = true
 is_for_batch (cmd.Add recursive only_hash to_files host_path) = is_some host_path
-is_for_batch (cmd.Cat target) = true
-is_for_batch (cmd.Get target host_path) = false
-is_for_batch (cmd.Mkdir parents path) = true
-is_for_batch (cmd.Ls long path) = true
-is_for_batch (cmd.Stat path) = true
-is_for_batch (cmd.Read offset count path) = true
 is_for_batch (cmd.Write offset create cut hex path) = is_some hex
-is_for_batch (cmd.Truncate path length) = true
-is_for_batch (cmd.Cp source dest) = true
-is_for_batch (cmd.Mv source dest) = true
-is_for_batch (cmd.Rm recursive path) = true
-is_for_batch (cmd.Chmod mode path) = true
-is_for_batch (cmd.Touch nanos seconds path) = true
-is_for_batch (cmd.Strip path) = true
-is_for_batch (cmd.Export cid) = true
+is_for_batch (cmd.Get target host_path) = false
 is_for_batch (cmd.Same cid) = false
 is_for_batch cmd.Import = false
-is_for_batch (cmd.PinAdd cid) = true
-is_for_batch (cmd.PinRm cid) = true
-is_for_batch cmd.PinLs = true
 is_for_batch cmd.Gc = false
-is_for_batch (cmd.Prove absent path) = true
 is_for_batch (cmd.Check absent cid path) = false
 is_for_batch (cmd.Pull cid) = false
 is_for_batch cmd.Serve = false
 is_for_batch cmd.Batch = false
 is_for_batch (cmd.Gen n seed) = false
+is_for_batch other = true
 
 -- what words ask for in a batch
 abbrev pub asked_in_batch : Option Cmd → Result Command Refusal

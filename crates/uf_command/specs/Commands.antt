@@ -48,11 +48,8 @@ use Rattle.uf_command.specs.Statuses.{no_memory}
 
 -- why a text is no path, as a refusal
 abbrev pub path_refusal : PathFault → Refusal
-path_refusal path.NotAbsolute = refusal.BadPath path.NotAbsolute
-path_refusal (path.BadName place) = refusal.BadPath (path.BadName place)
-path_refusal path.TooLong = refusal.BadPath path.TooLong
-path_refusal (path.BadCid why) = refusal.BadPath (path.BadCid why)
 path_refusal path.Memory = no_memory
+path_refusal why = refusal.BadPath why
 
 -- the command at a path, or why its text is none
 abbrev pub at_path : Ask → Result Path PathFault → Result Command Refusal
@@ -258,13 +255,10 @@ has_meta_of what (Err why) = false
 -- bytes, a move onto itself, and a change of metadata to what it is
 abbrev pub has_nothing_to_do : Edit → List (List ℕ) → Entries → Bool
 has_nothing_to_do (Mkdir parents) names es = parents && is_folder_at (at 0 names (Dir es))
-has_nothing_to_do (Rm recursive) names es = false
 has_nothing_to_do (Write how []) names es = not how.cut && is_file_at (at 0 names (Dir es))
-has_nothing_to_do (Write how (b ∷ piece)) names es = false
-has_nothing_to_do (Truncate length) names es = false
-has_nothing_to_do (Cp dest) names es = false
 has_nothing_to_do (Mv dest) names es = is_onto_itself names dest es
 has_nothing_to_do (SetMeta what) names es = has_meta_of what (at 0 names (Dir es))
+has_nothing_to_do other names es = false
 
 -- the command is an edit that has nothing to do, where these are the bytes of the input
 abbrev pub is_idle : List ℕ → Entries → Command → Bool

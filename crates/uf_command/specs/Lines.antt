@@ -67,11 +67,8 @@ path_number path.Memory = 5
 
 -- the byte at which a bad name starts, and else 0
 abbrev pub path_place : PathFault → ℕ
-path_place path.NotAbsolute = 0
 path_place (path.BadName place) = place
-path_place path.TooLong = 0
-path_place (path.BadCid why) = 0
-path_place path.Memory = 0
+path_place other = 0
 
 -- the number of a reason for which a store isn't ready
 abbrev pub ready_line : Ready → List ℕ

@@ -122,41 +122,31 @@ is_read_in ReadsInput = true
 
 abbrev pub is_host_used : HostUse → Bool
 is_host_used NoHost = false
-is_host_used ReadsHost = true
-is_host_used WritesHost = true
+is_host_used other = true
 
 abbrev pub is_host_written : HostUse → Bool
-is_host_written NoHost = false
-is_host_written ReadsHost = false
 is_host_written WritesHost = true
+is_host_written other = false
 
 abbrev pub is_head_needed : HeadNeed → Bool
 is_head_needed AnyHead = false
-is_head_needed NoHeadYet = true
-is_head_needed (AHead or_none) = true
+is_head_needed other = true
 
 abbrev pub is_nothing_written : WriteShape → Bool
 is_nothing_written NoWrites = true
-is_nothing_written SyncsBlocks = false
-is_nothing_written MakesHead = false
-is_nothing_written MovesHead = false
-is_nothing_written SyncsPins = false
-is_nothing_written NotesPins = false
+is_nothing_written other = false
 
 abbrev pub is_while_reading : Printing → Bool
-is_while_reading AtEnd = false
 is_while_reading WhileReading = true
-is_while_reading AfterHead = false
+is_while_reading other = false
 
 abbrev pub is_after_head : Printing → Bool
-is_after_head AtEnd = false
-is_after_head WhileReading = false
 is_after_head AfterHead = true
+is_after_head other = false
 
 abbrev pub is_of_tree : OwnStore → Bool
-is_of_tree NoStore = false
-is_of_tree OfCarSections = false
 is_of_tree OfTree = true
+is_of_tree other = false
 
 -- the command reads the input
 abbrev pub reads_input : Command → Bool

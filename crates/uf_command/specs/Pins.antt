@@ -51,7 +51,8 @@ removed_line count = line (codes "removed ") (decimal count)
 
 -- a CID is pinned beside these where all below it is there, unless as many others are pinned as may be
 abbrev pub pinning : Cid → List Cid → Result (List Cid) OrderFault → Result (List ℕ) Refusal
-pinning cid listed (Ok below) = if nat_le most_pins (others cid listed) then Err (refusal.Dag rule.TooManyPins) else Ok []
+pinning cid listed (Ok below) =
+    if nat_le most_pins (others cid listed) then Err (refusal.Dag rule.TooManyPins) else Ok []
 pinning cid listed (Err why) = Err (order_refusal why)
 
 -- what a command on pins prints or why it is refused, where the note lists these, or isn't read

@@ -25,17 +25,12 @@ status_number status.NotReady = 10
 
 -- the error line of a status, where it has one without details
 abbrev pub plain_line : Status → List ℕ
-plain_line status.Ok = []
-plain_line status.Rule = []
 plain_line status.Usage = codes "error: usage\n"
 plain_line status.StoreFault = codes "error: store\n"
-plain_line status.Missing = []
-plain_line status.BadBlock = []
 plain_line status.ReadFault = codes "error: read\n"
 plain_line status.WriteFault = codes "error: write\n"
-plain_line status.Clash = []
 plain_line status.Memory = codes "error: memory\n"
-plain_line status.NotReady = []
+plain_line other = []
 
 -- the batch ends at a line with this status
 abbrev pub ends_batch : Status → Bool
@@ -71,20 +66,15 @@ fault_status fault.Memory = status.Memory
 
 -- the status of a refusal
 abbrev pub status_of : Refusal → Status
-status_of (refusal.Rule rule) = status.Rule
-status_of (refusal.Dag rule) = status.Rule
-status_of (refusal.Host rule) = status.Rule
-status_of (refusal.BadPath why) = status.Rule
-status_of refusal.InputTooLong = status.Rule
 status_of refusal.Usage = status.Usage
 status_of (refusal.Ready why) = status.NotReady
 status_of refusal.BadPins = status.NotReady
 status_of refusal.Read = status.ReadFault
 status_of refusal.Write = status.WriteFault
 status_of (refusal.Store why) = fault_status why
-status_of (refusal.Car number place) = status.Rule
 status_of (refusal.CarLacks cid) = status.Missing
 status_of (refusal.OwnClash cid first second) = status.Clash
+status_of other = status.Rule
 
 -- how a command ends that is done or refused
 abbrev pub ended : {A : Type 0} → Result A Refusal → Status
@@ -98,9 +88,5 @@ no_memory = refusal.Store fault.Memory
 -- the fault of a store of a command's own, which holds what it was given and doesn't fail: what is no clash is out of
 -- memory
 abbrev pub own_refusal : StoreFault → Refusal
-own_refusal fault.Failed = no_memory
-own_refusal (fault.Damaged cid) = no_memory
-own_refusal (fault.Missing cid) = no_memory
-own_refusal (fault.BadBlock cid role) = no_memory
 own_refusal (fault.Clash cid first second) = refusal.OwnClash cid first second
-own_refusal fault.Memory = no_memory
+own_refusal other = no_memory

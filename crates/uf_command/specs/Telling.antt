@@ -14,17 +14,12 @@ use Rattle.uf_command.specs.declared.types.Refusal.TheVariants as refusal
 
 -- the error line of the status has details
 abbrev pub has_details : Status → Bool
-has_details status.Ok = false
 has_details status.Rule = true
-has_details status.Usage = false
-has_details status.StoreFault = false
 has_details status.Missing = true
 has_details status.BadBlock = true
-has_details status.ReadFault = false
-has_details status.WriteFault = false
 has_details status.Clash = true
-has_details status.Memory = false
 has_details status.NotReady = true
+has_details other = false
 
 -- a line was written, or a part of it where the count rose
 pub record IsSent (line : List ℕ) (held held_now : Told) (faults faults_now : ℕ) : Type 0 where

@@ -7,7 +7,6 @@ ghost use Rattle.uf_command.specs.Cids.{cid_reads, first_name_at as first_name_i
 ghost use Rattle.uf_command.specs.Commands.{IsAccepted, IsAsked, IsGoodAsk, add_asked, add_to_asked, asked, at_path};
 ghost use Rattle.uf_command.specs.Commands.{both_paths, is_of_files, mtime_of};
 ghost use Rattle.uf_command.specs.Commands.{adopt_asked, below_asked, cat_asked, cp_asked, get_asked, mv_asked};
-ghost use Rattle.uf_command.specs.Commands.{path_refusal};
 ghost use Rattle.uf_command.specs.Commands.{pin_asked, prove_asked, read_asked, set_meta_asked, write_asked};
 ghost use Rattle.uf_command.specs.declared.types.Ask.TheVariants as asks;
 ghost use Rattle.uf_tree.specs.Metas.{is_mtime};
@@ -19,7 +18,6 @@ use uf_cid::{Block, Cid, Text};
 use uf_message::Mtime;
 use uf_path::{DagPath, Path, PathFault};
 use uf_plain::{MetaEdit, WriteHow};
-use uf_store::StoreFault;
 use uf_words::Cmd;
 
 // What a path in a DAG starts with.
@@ -143,10 +141,10 @@ fn read_add_to(
     ensures asked { IsAsked result (add_to_asked recursive host_path (path_reads dest.now)) }
     ensures profile { IfOk result IsAccepted }
 {
-    let adding = match (Path::parse(alloc, dest.as_str()), host_path) {
-        (Err(why), _) => return Err(bad_path(why)),
-        (Ok(dest), None) => Adding::InputTo { dest },
-        (Ok(dest), Some(path)) => Adding::HostTo {
+    let dest = Path::parse(alloc, dest.as_str())?;
+    let adding = match host_path {
+        None => Adding::InputTo { dest },
+        Some(path) => Adding::HostTo {
             recursive,
             path,
             dest,
@@ -175,10 +173,10 @@ fn read_write(
     };
     match hex {
         Some(piece) => edit_at(alloc, Edit::Write { how, piece }, path),
-        None => match Path::parse(alloc, path.as_str()) {
-            Ok(path) => Ok(Command::WriteInput { how, path }),
-            Err(why) => Err(bad_path(why)),
-        },
+        None => {
+            let path = Path::parse(alloc, path.as_str())?;
+            Ok(Command::WriteInput { how, path })
+        }
     }
 }
 
@@ -187,10 +185,8 @@ fn read_cat(alloc: Global, target: &Text) -> Result<Command, Refusal>
     ensures asked { IsAsked result (cat_asked (dag_path_reads target.now)) }
     ensures profile { IfOk result IsAccepted }
 {
-    match DagPath::parse(alloc, target.as_str()) {
-        Ok(path) => Ok(Command::Cat { path }),
-        Err(why) => Err(bad_path(why)),
-    }
+    let path = DagPath::parse(alloc, target.as_str())?;
+    Ok(Command::Cat { path })
 }
 
 // `get` of a path in a DAG.
@@ -198,10 +194,8 @@ fn read_get(alloc: Global, target: &Text, host_path: Text) -> Result<Command, Re
     ensures asked { IsAsked result (get_asked (dag_path_reads target.now) host_path) }
     ensures profile { IfOk result IsAccepted }
 {
-    match DagPath::parse(alloc, target.as_str()) {
-        Ok(path) => Ok(Command::Get { path, host_path }),
-        Err(why) => Err(bad_path(why)),
-    }
+    let path = DagPath::parse(alloc, target.as_str())?;
+    Ok(Command::Get { path, host_path })
 }
 
 // `dag same`, or else `dag export`, of what is below a CID.
@@ -209,11 +203,12 @@ fn read_below(alloc: Global, cid: &Text, compared: bool) -> Result<Command, Refu
     ensures asked { IsAsked result (below_asked compared (cid_reads cid.now)) }
     ensures profile { IfOk result IsAccepted }
 {
-    match read_cid(alloc, cid.as_str()) {
-        Ok(cid) if compared => Ok(Command::Same { cid }),
-        Ok(cid) => Ok(Command::Export { cid }),
-        Err(why) => Err(bad_path(why)),
-    }
+    let cid = read_cid(alloc, cid.as_str())?;
+    Ok(if compared {
+        Command::Same { cid }
+    } else {
+        Command::Export { cid }
+    })
 }
 
 // `pin add`, or else `pin rm`, of a CID.
@@ -221,10 +216,11 @@ fn read_pin(alloc: Global, cid: &Text, added: bool) -> Result<Command, Refusal>
     ensures asked { IsAsked result (pin_asked added (cid_reads cid.now)) }
     ensures profile { IfOk result IsAccepted }
 {
-    let ask = match read_cid(alloc, cid.as_str()) {
-        Ok(cid) if added => PinAsk::Add { cid },
-        Ok(cid) => PinAsk::Remove { cid },
-        Err(why) => return Err(bad_path(why)),
+    let cid = read_cid(alloc, cid.as_str())?;
+    let ask = if added {
+        PinAsk::Add { cid }
+    } else {
+        PinAsk::Remove { cid }
     };
     Ok(Command::Pin { ask })
 }
@@ -234,10 +230,8 @@ fn read_prove(alloc: Global, absent: bool, path: &Text) -> Result<Command, Refus
     ensures asked { IsAsked result (prove_asked absent (path_reads path.now)) }
     ensures profile { IfOk result IsAccepted }
 {
-    match Path::parse(alloc, path.as_str()) {
-        Ok(path) => Ok(Command::Prove { absent, path }),
-        Err(why) => Err(bad_path(why)),
-    }
+    let path = Path::parse(alloc, path.as_str())?;
+    Ok(Command::Prove { absent, path })
 }
 
 // The CID that a text is: a path in a DAG without names.
@@ -290,14 +284,12 @@ fn read_read(alloc: Global, offset: u64, count: u64, path: &Text) -> Result<Comm
     ensures asked { IsAsked result (read_asked offset count (path_reads path.now)) }
     ensures profile { IfOk result IsAccepted }
 {
-    match Path::parse(alloc, path.as_str()) {
-        Ok(path) => Ok(Command::Read {
-            offset,
-            count,
-            path,
-        }),
-        Err(why) => Err(bad_path(why)),
-    }
+    let path = Path::parse(alloc, path.as_str())?;
+    Ok(Command::Read {
+        offset,
+        count,
+        path,
+    })
 }
 
 // `files cp` from the tree, or from a DAG.
@@ -322,13 +314,9 @@ fn read_adopt(alloc: Global, source: &Text, dest: &Text) -> Result<Command, Refu
     ensures asked { IsAsked result (adopt_asked (dag_path_reads source.now) (path_reads dest.now)) }
     ensures profile { IfOk result IsAccepted }
 {
-    match DagPath::parse(alloc, source.as_str()) {
-        Err(why) => Err(bad_path(why)),
-        Ok(source) => match Path::parse(alloc, dest.as_str()) {
-            Err(why) => Err(bad_path(why)),
-            Ok(dest) => Ok(Command::Adopt { source, dest }),
-        },
-    }
+    let source = DagPath::parse(alloc, source.as_str())?;
+    let dest = Path::parse(alloc, dest.as_str())?;
+    Ok(Command::Adopt { source, dest })
 }
 
 // `files mv`.
@@ -349,13 +337,9 @@ fn read_mv(alloc: Global, source: &Text, dest: &Text) -> Result<Command, Refusal
 fn read_both(alloc: Global, source: &Text, dest: &Text) -> Result<(Path, Path), Refusal>
     ensures { IsAsked result (both_paths (path_reads source.now) (path_reads dest.now)) }
 {
-    match Path::parse(alloc, source.as_str()) {
-        Err(why) => Err(bad_path(why)),
-        Ok(source) => match Path::parse(alloc, dest.as_str()) {
-            Err(why) => Err(bad_path(why)),
-            Ok(dest) => Ok((source, dest)),
-        },
-    }
+    let source = Path::parse(alloc, source.as_str())?;
+    let dest = Path::parse(alloc, dest.as_str())?;
+    Ok((source, dest))
 }
 
 // A change of the metadata of what is at a path.
@@ -382,18 +366,6 @@ fn ask_at(alloc: Global, ask: Ask, path: &Text) -> Result<Command, Refusal>
     ensures asked { IsAsked result (at_path ask (path_reads path.now)) }
     ensures profile { IfOk result IsAccepted }
 {
-    match Path::parse(alloc, path.as_str()) {
-        Ok(path) => Ok(Command::At { ask, path }),
-        Err(why) => Err(bad_path(why)),
-    }
-}
-
-// Why a text is no path, as a refusal.
-pub fn bad_path(why: PathFault) -> Refusal
-    ensures { result ≡ path_refusal why }
-{
-    match why {
-        PathFault::Memory => Refusal::Store(StoreFault::Memory),
-        why => Refusal::BadPath(why),
-    }
+    let path = Path::parse(alloc, path.as_str())?;
+    Ok(Command::At { ask, path })
 }

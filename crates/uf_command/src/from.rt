@@ -1,11 +1,15 @@
-//! How out of memory and a fault of a call on pins become refusals, where `?` passes them on.
+//! How faults of calls become refusals, where `?` passes them on.
 ghost use Rattle.std.specs.Prelude.{◌≡◌};
+ghost use Rattle.uf_command.specs.Commands.{path_refusal};
+ghost use Rattle.uf_command.specs.Peers.{pull_refusal, serve_refusal};
 ghost use Rattle.uf_command.specs.Pins.{pin_refusal};
 ghost use Rattle.uf_command.specs.Statuses.{no_memory};
 
-use crate::{DagRule, Refusal};
+use crate::{DagRule, PeerRefusal, PeerRule, Refusal};
 use uf_cid::Memory;
+use uf_path::PathFault;
 use uf_pins::PinFault;
+use uf_pull::{PullFault, ServeFault};
 use uf_store::StoreFault;
 
 impl From<Memory> for Refusal {
@@ -13,6 +17,17 @@ impl From<Memory> for Refusal {
 
     fn from(_: Memory) -> Refusal {
         Refusal::Store(StoreFault::Memory)
+    }
+}
+
+impl From<PathFault> for Refusal {
+    ghost from_gives = { λ why given. given ≡ path_refusal why };
+
+    fn from(why: PathFault) -> Refusal {
+        match why {
+            PathFault::Memory => Refusal::Store(StoreFault::Memory),
+            why => Refusal::BadPath(why),
+        }
     }
 }
 
@@ -27,6 +42,40 @@ impl From<PinFault> for Refusal {
             PinFault::NotDagPb(cid, why) => Refusal::Dag(DagRule::NotUnixfs(cid, why)),
             PinFault::TooMany => Refusal::Dag(DagRule::TooMany),
             PinFault::Store(fault) => Refusal::Store(fault),
+        }
+    }
+}
+
+impl From<PullFault> for PeerRefusal {
+    ghost from_gives = { λ fault given. given ≡ pull_refusal fault };
+
+    fn from(fault: PullFault) -> PeerRefusal {
+        match fault {
+            PullFault::Lacks(cid) => PeerRefusal::Peer(PeerRule::Lacks(cid)),
+            PullFault::Ended(cid) => PeerRefusal::Peer(PeerRule::Ended(cid)),
+            PullFault::Bad(place) => PeerRefusal::Peer(PeerRule::Bad(place)),
+            PullFault::Noise => PeerRefusal::Peer(PeerRule::Noise),
+            PullFault::NotDagPb(cid, why) => {
+                PeerRefusal::Other(Refusal::Dag(DagRule::NotUnixfs(cid, why)))
+            }
+            PullFault::TooMany => PeerRefusal::Other(Refusal::Dag(DagRule::TooMany)),
+            PullFault::Read => PeerRefusal::Other(Refusal::Read),
+            PullFault::Sink => PeerRefusal::Other(Refusal::Write),
+            PullFault::Store(fault) => PeerRefusal::Other(Refusal::Store(fault)),
+        }
+    }
+}
+
+impl From<ServeFault> for PeerRefusal {
+    ghost from_gives = { λ fault given. given ≡ serve_refusal fault };
+
+    fn from(fault: ServeFault) -> PeerRefusal {
+        match fault {
+            ServeFault::BadWant(number) => PeerRefusal::Peer(PeerRule::BadWant(number)),
+            ServeFault::TooLong => PeerRefusal::Other(Refusal::InputTooLong),
+            ServeFault::Read => PeerRefusal::Other(Refusal::Read),
+            ServeFault::Sink => PeerRefusal::Other(Refusal::Write),
+            ServeFault::Store(fault) => PeerRefusal::Other(Refusal::Store(fault)),
         }
     }
 }

@@ -1,15 +1,14 @@
 //! How talks with peers end, and how that is reported.
 ghost use Rattle.std.specs.Prelude.{◌≡◌, ◌++◌, IfOk};
 ghost use Rattle.std.specs.Fmt.{decimal};
-ghost use Rattle.uf_command.specs.Peers.{TellsTalk, peer_words as words_of_peer, pull_end as end_of_pull};
-ghost use Rattle.uf_command.specs.Peers.{TellsRule, pull_refusal as refusal_of_pull, serve_end as end_of_serve};
-ghost use Rattle.uf_command.specs.Peers.{peer_line as line_of_peer, serve_refusal as refusal_of_serve};
+ghost use Rattle.uf_command.specs.Peers.{TellsRule, TellsTalk, peer_line as line_of_peer, peer_words as words_of_peer};
+ghost use Rattle.uf_command.specs.Peers.{pull_end as end_of_pull, serve_end as end_of_serve};
 ghost use Rattle.uf_command.specs.Telling.{IsSent};
 
 use crate::dags::with_cid;
 use crate::lines::{plain, wrapped};
 use crate::telling::{said, tell, tell_end};
-use crate::{DagRule, PeerRefusal, PeerRule, Refusal, Status};
+use crate::{PeerRefusal, PeerRule, Status};
 use std::alloc::Global;
 use uf_cid::{Block, Memory};
 use uf_edge::Sink;
@@ -19,52 +18,16 @@ use uf_pull::{PullFault, ServeFault};
 pub fn pull_end(done: Result<u64, PullFault>) -> Result<(), PeerRefusal>
     ensures { result ≡ end_of_pull done }
 {
-    match done {
-        Ok(_) => Ok(()),
-        Err(fault) => Err(pull_refusal(fault)),
-    }
+    done?;
+    Ok(())
 }
 
 /// How the lines of a peer were answered: to their end, or refused.
 pub fn serve_end(done: Result<u64, ServeFault>) -> Result<(), PeerRefusal>
     ensures { result ≡ end_of_serve done }
 {
-    match done {
-        Ok(_) => Ok(()),
-        Err(fault) => Err(serve_refusal(fault)),
-    }
-}
-
-// Why a DAG wasn't pulled, as a refusal.
-fn pull_refusal(fault: PullFault) -> PeerRefusal
-    ensures { result ≡ refusal_of_pull fault }
-{
-    match fault {
-        PullFault::Lacks(cid) => PeerRefusal::Peer(PeerRule::Lacks(cid)),
-        PullFault::Ended(cid) => PeerRefusal::Peer(PeerRule::Ended(cid)),
-        PullFault::Bad(place) => PeerRefusal::Peer(PeerRule::Bad(place)),
-        PullFault::Noise => PeerRefusal::Peer(PeerRule::Noise),
-        PullFault::NotDagPb(cid, why) => {
-            PeerRefusal::Other(Refusal::Dag(DagRule::NotUnixfs(cid, why)))
-        }
-        PullFault::TooMany => PeerRefusal::Other(Refusal::Dag(DagRule::TooMany)),
-        PullFault::Read => PeerRefusal::Other(Refusal::Read),
-        PullFault::Sink => PeerRefusal::Other(Refusal::Write),
-        PullFault::Store(fault) => PeerRefusal::Other(Refusal::Store(fault)),
-    }
-}
-
-// Why the lines of a peer weren't all answered, as a refusal.
-fn serve_refusal(fault: ServeFault) -> PeerRefusal
-    ensures { result ≡ refusal_of_serve fault }
-{
-    match fault {
-        ServeFault::BadWant(number) => PeerRefusal::Peer(PeerRule::BadWant(number)),
-        ServeFault::TooLong => PeerRefusal::Other(Refusal::InputTooLong),
-        ServeFault::Read => PeerRefusal::Other(Refusal::Read),
-        ServeFault::Sink => PeerRefusal::Other(Refusal::Write),
-        ServeFault::Store(fault) => PeerRefusal::Other(Refusal::Store(fault)),
-    }
+    done?;
+    Ok(())
 }
 
 /// The status with which a talk ends, whose line goes to `errors`.

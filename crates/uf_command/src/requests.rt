@@ -4,7 +4,7 @@ ghost use Rattle.uf_command.specs.Cids.{cid_reads};
 ghost use Rattle.uf_path.specs.Paths.{path_reads};
 ghost use Rattle.uf_command.specs.Requests.{IsAcceptedAlone, IsRequested, check_asked, pull_asked, request_in};
 
-use crate::asking::{bad_path, read_cid, read_path};
+use crate::asking::{read_cid, read_path};
 use crate::{Command, Refusal};
 use std::alloc::Global;
 use uf_cid::{Cid, Text};
@@ -61,7 +61,7 @@ fn read_pull(alloc: Global, cid: &Text) -> Request
     match read_cid(alloc, cid.as_str()) {
         Ok(cid) => Request::Pull { cid },
         Err(why) => Request::One {
-            asked: Err(bad_path(why)),
+            asked: Err(Refusal::from(why)),
         },
     }
 }
@@ -73,12 +73,12 @@ fn read_check(alloc: Global, absent: bool, cid: &Text, path: &Text) -> Request
 {
     match read_cid(alloc, cid.as_str()) {
         Err(why) => Request::One {
-            asked: Err(bad_path(why)),
+            asked: Err(Refusal::from(why)),
         },
         Ok(cid) => match Path::parse(alloc, path.as_str()) {
             Ok(path) => Request::Check { absent, cid, path },
             Err(why) => Request::One {
-                asked: Err(bad_path(why)),
+                asked: Err(Refusal::from(why)),
             },
         },
     }

@@ -26,7 +26,7 @@ use uf_mfs::{Mfs, MfsFault};
 use uf_murmur::NameHash;
 use uf_plain::WriteHow;
 use uf_shard::DirFault;
-use uf_store::{MemStore, Steps, Store, StoreFault};
+use uf_store::{MemStore, Steps, Store};
 use uf_tree::{Entry, Profile};
 
 // The profile of the generated tree.
@@ -70,10 +70,7 @@ fn generated_beside<X: BlockHash, N: NameHash, L: Ledger>(
     let mut store = MemStore::<X>::new(alloc);
     match fresh_root::<MemStore<X>, N, L>(alloc, &SMALL, n, seed, &mut store, touches) {
         Err(fault) => Err(fresh_refusal(fault)),
-        Ok(fresh) => match generated_lines(alloc, n, seed, root, &fresh.cid) {
-            Err(_) => Err(Refusal::Store(StoreFault::Memory)),
-            Ok(text) => Ok(text),
-        },
+        Ok(fresh) => Ok(generated_lines(alloc, n, seed, root, &fresh.cid)?),
     }
 }
 
@@ -176,10 +173,9 @@ fn step_one<S: Store, N: NameHash, L: Ledger>(
         (S.seen store.new) tree.new result }
     ensures mfs { IsMfs tree.new }
 {
-    match edit_of(alloc, step, seed, i) {
-        Err(_) => Err(MfsFault::Store(StoreFault::Memory)),
-        Ok(None) => Ok(()),
-        Ok(Some(edit)) => edit_file::<S, N, L>(alloc, i, &edit, tree, store, touches),
+    match edit_of(alloc, step, seed, i)? {
+        None => Ok(()),
+        Some(edit) => edit_file::<S, N, L>(alloc, i, &edit, tree, store, touches),
     }
 }
 
@@ -201,10 +197,8 @@ fn edit_file<S: Store, N: NameHash, L: Ledger>(
         (S.seen store.new) tree.new result }
     ensures mfs { IsMfs tree.new }
 {
-    match file_path(alloc, i) {
-        Err(_) => Err(MfsFault::Store(StoreFault::Memory)),
-        Ok(path) => edited::<S, N, L>(alloc, tree, edit, &path, store, touches),
-    }
+    let path = file_path(alloc, i)?;
+    edited::<S, N, L>(alloc, tree, edit, &path, store, touches)
 }
 
 // The edit of a step to a file, if there is any.

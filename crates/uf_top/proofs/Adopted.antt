@@ -39,8 +39,6 @@ use Rattle.uf_command.specs.Dags.{adopted_name, tree_at}
 use Rattle.uf_command.specs.Natures.{MovesHead}
 use Rattle.uf_command.specs.Kinds.{adopt_kinds, OfWrite, fault_behind, may_close, refusal_fault, refusal_kind}
 use Rattle.uf_top.specs.Reply.{Outside, World, adopt_reply, adopted, grown, in_world, moved, outside_of, reply, world_of}
-use Rattle.uf_command.specs.Statuses.{status_of}
-use Rattle.uf_command.specs.declared.status.Status.TheVariants as status
 use Rattle.uf_command.specs.declared.types.Ask.TheVariants.{Ls}
 use Rattle.uf_command.specs.declared.types.Command.TheVariants.{Adopt, At}
 use Rattle.uf_command.specs.declared.types.Refusal.{Refusal}
@@ -48,7 +46,7 @@ use Rattle.uf_command.specs.declared.types.Refusal.TheVariants as refusal
 use Rattle.uf_top.specs.Answering.{Answers, DoesAnswer}
 use Rattle.uf_top.specs.Around.{HostSide, RisesFor, SinkSide, around}
 use Rattle.uf_top.specs.Causes.{IsBadIn, IsReadyBy, RefusesInTree, RefusesOpening, is_read}
-use Rattle.uf_top.specs.Endings.{EndsBy, RuleOf}
+use Rattle.uf_top.specs.Endings.{EndsBy}
 use Rattle.uf_top.specs.Grafts.{GraftsIn, IsLostBy, LeavesUnplaced, PutsTree, SavesAdopted, TouchesUp, graft_kinds}
 use Rattle.uf_top.specs.Saving.{KeepsAdopted, SavesNoOther, adopted_blocks}
 use Rattle.uf_top.specs.Losing.{AnswersOver, DoesOver, placing_needs}
@@ -106,21 +104,20 @@ tree-kind (mfs.Store f) w is = subst (λ w. graft_kinds (refusal_kind w) ≡ tru
 record IsGrafting (source : DagPath) (dest : Path) (told : Told) (l m : streams.Told) (i : ℕ) (why : Refusal) : Type 0 where
   other : refusal_kind why ≢ OfWrite
   ends : may_close adopt_kinds (refusal_kind why) ≡ true
-  rule : status_of why ≡ status.Rule → RuleOf (Adopt source dest) why told l m
   reads : Counts (is_read {A = Unit {0}} (Err why)) i i
 
 module _ (source : DagPath) (dest : Path) (told : Told) (l m : streams.Told) (i : ℕ) where
   grafting-store : (f : StoreFault) → IsGrafting source dest told l m i (refusal.Store f)
-  grafting-store fault.Failed = record { other = λ e. cc; ends = refl; rule = λ e. absurd cc; reads = counts-still i }
-  grafting-store (fault.Damaged cid) = record { other = λ e. cc; ends = refl; rule = λ e. absurd cc; reads = counts-still i }
-  grafting-store (fault.Missing cid) = record { other = λ e. cc; ends = refl; rule = λ e. absurd cc; reads = counts-still i }
-  grafting-store (fault.BadBlock cid role) = record { other = λ e. cc; ends = refl; rule = λ e. absurd cc; reads = counts-still i }
-  grafting-store (fault.Clash cid first second) = record { other = λ e. cc; ends = refl; rule = λ e. absurd cc; reads = counts-still i }
-  grafting-store fault.Memory = record { other = λ e. cc; ends = refl; rule = λ e. absurd cc; reads = counts-still i }
+  grafting-store fault.Failed = record { other = λ e. cc; ends = refl; reads = counts-still i }
+  grafting-store (fault.Damaged cid) = record { other = λ e. cc; ends = refl; reads = counts-still i }
+  grafting-store (fault.Missing cid) = record { other = λ e. cc; ends = refl; reads = counts-still i }
+  grafting-store (fault.BadBlock cid role) = record { other = λ e. cc; ends = refl; reads = counts-still i }
+  grafting-store (fault.Clash cid first second) = record { other = λ e. cc; ends = refl; reads = counts-still i }
+  grafting-store fault.Memory = record { other = λ e. cc; ends = refl; reads = counts-still i }
 
   grafting-of : (why : Refusal) → graft_kinds (refusal_kind why) ≡ true → IsGrafting source dest told l m i why
-  grafting-of (refusal.Rule r) h = record { other = λ e. cc; ends = refl; rule = λ e. inr (r, refl); reads = counts-still i }
-  grafting-of (refusal.Dag r) h = record { other = λ e. cc; ends = refl; rule = λ e. inl (r, refl); reads = counts-still i }
+  grafting-of (refusal.Rule r) h = record { other = λ e. cc; ends = refl; reads = counts-still i }
+  grafting-of (refusal.Dag r) h = record { other = λ e. cc; ends = refl; reads = counts-still i }
   grafting-of (refusal.BadPath p) h = absurd cc
   grafting-of (refusal.Host r) h = absurd cc
   grafting-of (refusal.Car number place) h = absurd cc
@@ -137,7 +134,7 @@ module _ (source : DagPath) (dest : Path) (told : Told) (l m : streams.Told) (i 
   -- the same of a tree that isn't opened
   grafting-opening : (f : MfsFault) (why : Refusal) → RefusesOpening f why → IsGrafting source dest told l m i why
   grafting-opening (mfs.Rule rule) why is = absurd is
-  grafting-opening (mfs.Ready reason) why is = subst (IsGrafting source dest told l m i) (sym is) (record { other = λ e. cc; ends = refl; rule = λ e. absurd cc; reads = counts-still i })
+  grafting-opening (mfs.Ready reason) why is = subst (IsGrafting source dest told l m i) (sym is) (record { other = λ e. cc; ends = refl; reads = counts-still i })
   grafting-opening mfs.Sink why is = absurd is
   grafting-opening (mfs.Store f) why is = subst (IsGrafting source dest told l m i) (sym is) (grafting-store f)
 
@@ -337,7 +334,7 @@ module _ (X : List ℕ → List ℕ) (N : List ℕ → ℕ) where
           prints = quiet.prints h h refl;
           kinds = plain.ends;
           ready = same-ready a.told source dest why (opening-ready a.told (Ls false) dest f why is head);
-          rule = plain.rule;
+          long = tt;
           reads = plain.reads;
           host = refl;
           gets = tt;
@@ -432,7 +429,7 @@ module _ (X : List ℕ → List ℕ) (N : List ℕ → ℕ) where
             prints = quiet.prints h h refl;
             kinds = plain.ends;
             ready = graft-ready a.told source dest why g.kinds;
-            rule = plain.rule;
+            long = tt;
             reads = plain.reads;
             host = refl;
             gets = tt;
@@ -464,7 +461,7 @@ module _ (X : List ℕ → List ℕ) (N : List ℕ → ℕ) where
         prints = ([], refl, after-nothing h);
         kinds = tt;
         ready = tt;
-        rule = tt;
+        long = tt;
         reads = counts-still i;
         host = refl;
         gets = tt;

@@ -1,9 +1,9 @@
 -- How it is done what is asked of an opened tree.
 use Rattle.std.proofs.Common.{◌≡◌, ℕ, ◌+◌, ◌≤◌, List, [], arith, true, false, refl, sym, ap, subst, ◌∙◌, None, Result, Ok, Err}
-use Rattle.std.specs.Prelude.{IfOk}
+use Rattle.std.specs.Prelude.{IfErr, IfOk, OnErr, OnOk}
 use Rattle.uf_edge.specs.Counts.{Stood}
 use Rattle.uf_mfs.specs.Answers as tree
-use Rattle.uf_mfs.specs.Answers.{MovesTo, ShownInTree}
+use Rattle.uf_mfs.specs.Answers.{ShownInTree}
 use Rattle.uf_mfs.specs.Bad.{IsBadInTree}
 use Rattle.uf_mfs.specs.Saving.{SavesForEdit}
 use Rattle.uf_mfs.specs.Standing.{Commits, IsWanting, LeavesHead, NamesOver, Same, StandsAfter, StandsAt, StandsOver, TellsAs, head_in}
@@ -50,6 +50,7 @@ use Rattle.uf_top.proofs.Finding.{idle-head}
 use Rattle.uf_top.proofs.InTree.{edit-answers, fault-answers, look-answers, move-answers, stays-nothing, stays-same, tree-wants, wants}
 use Rattle.uf_top.proofs.Classed.{made-kinds, tree-kinds}
 use Rattle.uf_top.proofs.Losing.{edit-over, fault-over, look-over, lost-wants, move-over, named-before, named-between, names-kept, names-same}
+use Rattle.uf_top.proofs.Refusing.{IsRefusedAs}
 use Rattle.uf_top.proofs.Saved.{no-other-among, no-other-commits, no-other-leaves, no-other-same, no-other-trans, throughout}
 use Rattle.uf_top.proofs.Shows.{Shown-tree, bad-way, made-shown, made-touched, no-rows, tree-touched}
 use Rattle.uf_top.proofs.Standings.{stands-kept, stands-same}
@@ -64,12 +65,13 @@ module _ (X : List ℕ → List ℕ) (N : List ℕ → ℕ) (mfs : Mfs) (path : 
   module _ (a b : Seen) (ask : Ask) (say : Profile → Tree → List ℕ) (looks : ask_writes ask ≡ NoWrites)
       (reply_is : (p : Profile) (es : Entries) → tree_reply X N ask path.names p es ≡ looked (Stands p es) path.names (say p) (at 0 path.names (Dir es))) where
     -- a lookup that gives nothing
-    pub not-looked : (t0 t1 : ℕ) → ((p : Profile) (es : Entries) (rows : ℕ → ℕ) → StandsOver X N a.told mfs p es → Stood a.faults b.faults → t1 ≤ t0 + ask_touches X N rows ask path.names p es) → (B : Type 0) (f : MfsFault) → CountsUp (tree_fault {A = B} (Err f)) t0 t1
-        → (P : Profile → Tree → B → Type 0) (w : Refusal) → RefusesInTree f w
-        → ((p : Profile) (es : Entries) → StandsAt X N a.told mfs p es → Stood a.faults b.faults → tree.Answers {B = B} (P p) path.names (at 0 path.names (Dir es)) (Err f))
-        → ((p : Profile) (es : Entries) → StandsOver X N a.told mfs p es → Stood a.faults b.faults → tree.AnswersOr {B = B} (IsLossOf a.told (ask_needs X N ask path.names p es)) (P p) path.names (at 0 path.names (Dir es)) (Err f))
-        → ShownInTree X (IsBadInTree X N None mfs.root.cid) {A = B} (Err f) a b → b.told ≡ a.told → WorksAt X N mfs ask path (Err w) a b t0 t1
-    not-looked t0 t1 few B f up P w is answer lost cause told = record {
+    pub not-looked : (t0 t1 : ℕ) → ((p : Profile) (es : Entries) (rows : ℕ → ℕ) → StandsOver X N a.told mfs p es → Stood a.faults b.faults → t1 ≤ t0 + ask_touches X N rows ask path.names p es) → (B : Type 0) (r : Result B MfsFault) → CountsUp (tree_fault r) t0 t1
+        → (P : Profile → Tree → B → Type 0) (w : Refusal) → IsRefusedAs RefusesInTree r (Err w)
+        → ((p : Profile) (es : Entries) → StandsAt X N a.told mfs p es → Stood a.faults b.faults → tree.Answers {B = B} (P p) path.names (at 0 path.names (Dir es)) r)
+        → ((p : Profile) (es : Entries) → StandsOver X N a.told mfs p es → Stood a.faults b.faults → tree.AnswersOr {B = B} (IsLossOf a.told (ask_needs X N ask path.names p es)) (P p) path.names (at 0 path.names (Dir es)) r)
+        → ShownInTree X (IsBadInTree X N None mfs.root.cid) r a b → b.told ≡ a.told → WorksAt X N mfs ask path (Err w) a b t0 t1
+    not-looked t0 t1 few B (Ok found) up P w is answer lost cause told = absurd cc
+    not-looked t0 t1 few B (Err f) up P w is answer lost cause told = record {
       answers = λ p es at_tree stands calm. subst (λ r. Answers X N (Stands p es) r (Err w) b.told) (sym (reply_is p es))
           (fault-answers X N Tree B (P p) (Stands p es) path.names (at 0 path.names (Dir es)) (looked (Stands p es) path.names (say p)) f w b.told
           (λ why. refl) is (answer p es at_tree calm.faults) (stands-same X N a.told b.told (Stands p es) told stands));
@@ -89,17 +91,18 @@ module _ (X : List ℕ → List ℕ) (N : List ℕ → ℕ) (mfs : Mfs) (path : 
     }
 
     -- what it gives is said
-    pub is-looked : (t0 t1 : ℕ) → ((p : Profile) (es : Entries) (rows : ℕ → ℕ) → StandsOver X N a.told mfs p es → Stood a.faults b.faults → t1 ≤ t0 + ask_touches X N rows ask path.names p es) → CountsUp None t0 t1 → (B M : Type 0) (P : Profile → Tree → B → Type 0) (found : B) (text : Result (List ℕ) M) (r : Result (List ℕ) Refusal)
-        → ((p : Profile) (es : Entries) → StandsAt X N a.told mfs p es → Stood a.faults b.faults → tree.Answers {B = B} (P p) path.names (at 0 path.names (Dir es)) (Ok found))
-        → ((p : Profile) (es : Entries) → StandsOver X N a.told mfs p es → Stood a.faults b.faults → tree.AnswersOr {B = B} (IsLossOf a.told (ask_needs X N ask path.names p es)) (P p) path.names (at 0 path.names (Dir es)) (Ok found))
-        → ((p : Profile) (t : Tree) → mfs.profile ≡ p → P p t found → IfOk text (λ x. x ≡ say p t)) → IsMade text r → StaysCalm a b → b.told ≡ a.told → WorksAt X N mfs ask path r a b t0 t1
-    is-looked t0 t1 few up B M P found text r answer lost says made calm told = record {
+    pub is-looked : (t0 t1 : ℕ) → ((p : Profile) (es : Entries) (rows : ℕ → ℕ) → StandsOver X N a.told mfs p es → Stood a.faults b.faults → t1 ≤ t0 + ask_touches X N rows ask path.names p es) → (B M : Type 0) (given : Result B MfsFault) → CountsUp (tree_fault given) t0 t1 → (P : Profile → Tree → B → Type 0) (found : B) → IsRefusedAs RefusesInTree given (Ok found) → (text : Result (List ℕ) M) (r : Result (List ℕ) Refusal)
+        → ((p : Profile) (es : Entries) → StandsAt X N a.told mfs p es → Stood a.faults b.faults → tree.Answers {B = B} (P p) path.names (at 0 path.names (Dir es)) given)
+        → ((p : Profile) (es : Entries) → StandsOver X N a.told mfs p es → Stood a.faults b.faults → tree.AnswersOr {B = B} (IsLossOf a.told (ask_needs X N ask path.names p es)) (P p) path.names (at 0 path.names (Dir es)) given)
+        → ((p : Profile) (t : Tree) → mfs.profile ≡ p → P p t found → IfOk text (λ x. x ≡ say p t)) → IsMade text r → ShownInTree X (IsBadInTree X N None mfs.root.cid) given a b → b.told ≡ a.told → WorksAt X N mfs ask path r a b t0 t1
+    is-looked t0 t1 few B M (Err f) up P found is text r answer lost says made calm told = absurd is
+    is-looked t0 t1 few B M (Ok it) up P found is text r answer lost says made calm told = let same : it ≡ found = cc in record {
       answers = λ p es at_tree stands calm. subst (λ given. Answers X N (Stands p es) given r b.told) (sym (reply_is p es))
-          (look-answers X N B M (P p) (Stands p es) path.names (say p) (at 0 path.names (Dir es)) found text r b.told
-          (answer p es at_tree calm.faults) (λ t h. says p t at_tree.profile_is h) made (stands-same X N a.told b.told (Stands p es) told stands));
+          (look-answers X N B M (P p) (Stands p es) path.names (say p) (at 0 path.names (Dir es)) it text r b.told
+          (answer p es at_tree calm.faults) (λ t h. says p t at_tree.profile_is (subst (P p t) same h)) made (stands-same X N a.told b.told (Stands p es) told stands));
       lost = λ p es over named calm2. subst (λ given. AnswersOver X N a.told b.told p es (ask_needs X N ask path.names p es) given r) (sym (reply_is p es))
-          (look-over X N a.told b.told p es (ask_needs X N ask path.names p es) B M (P p) path.names (say p) (at 0 path.names (Dir es)) found text r
-          (lost p es over calm2.faults) (λ t h. says p t over.profile_is h) made (names-same X N a.told b.told p es told named));
+          (look-over X N a.told b.told p es (ask_needs X N ask path.names p es) B M (P p) path.names (say p) (at 0 path.names (Dir es)) it text r
+          (lost p es over calm2.faults) (λ t h. says p t over.profile_is (subst (P p t) same h)) made (names-same X N a.told b.told p es told named));
       text = looked-text ask looks r;
       kinds = made-kinds M text r made;
       cause = made-shown M X (IsBadAsked X N mfs.profile b.told mfs.root.cid) text r a b made calm;
@@ -125,8 +128,9 @@ module _ (X : List ℕ → List ℕ) (N : List ℕ → ℕ) (mfs : Mfs) (path : 
         no-other-among X (edited_blocks X N edit path.names p es) a.told m.told (saves p es over (throughout a m (blocks X N p (Dir es)) over.root.agrees named.last can))
 
     -- the edit is refused
-    pub edit-refused : (f : MfsFault) (w : Refusal) → RefusesInTree f w → EditsInMemory X N mfs new edit path (Err f) a m t0 t1 → WorksAt X N mfs (Edits edit) path (Err w) a m t0 t1
-    edit-refused f w is e = record {
+    pub edit-refused : (r : Result (Unit {0}) MfsFault) (w : Refusal) → IsRefusedAs RefusesInTree r (Err w) → EditsInMemory X N mfs new edit path r a m t0 t1 → WorksAt X N mfs (Edits edit) path (Err w) a m t0 t1
+    edit-refused (Ok done) w is e = absurd cc
+    edit-refused (Err f) w is e = record {
       answers = λ p es at_tree stands calm.
           edit-answers X N (λ fs done. StandsAt X N m.told new p fs) p es (edited_by X N edit path.names p es) f w m.told
           is (e.answers p es at_tree calm) (stands-kept X N a.told m.told (Stands p es) e.good (saves-head X a.told m.told e.saves) stands);
@@ -168,9 +172,10 @@ module _ (X : List ℕ → List ℕ) (N : List ℕ → ℕ) (mfs : Mfs) (path : 
           idle (idle-head X N a.told m.told mfs new p es at_tree names same_tree.0 same_tree.1) ∙ same_tree.0
 
       -- the commit is refused
-      pub commit-refused : (f : MfsFault) (w : Refusal) → RefusesInTree f w → CountsUp (tree_fault {A = Unit {0}} (Err f)) t1 t2 → (Stood m.faults b.faults → IsWanting f) → LeavesHead m.told b.told
-          → ShownInTree X NoneIsBad {A = Unit {0}} (Err f) m b → WorksAt X N mfs (Edits edit) path (Err w) a b t0 t2
-      commit-refused f w is later_up wanting leaves cause =
+      pub commit-refused : (r : Result (Unit {0}) MfsFault) (w : Refusal) → IsRefusedAs RefusesInTree r (Err w) → CountsUp (tree_fault r) t1 t2 → (Stood m.faults b.faults → IfErr r IsWanting) → OnErr r (LeavesHead m.told b.told)
+          → ShownInTree X NoneIsBad r m b → WorksAt X N mfs (Edits edit) path (Err w) a b t0 t2
+      commit-refused (Ok done) w is later_up wanting leaves cause = absurd cc
+      commit-refused (Err f) w is later_up wanting leaves cause =
           let shown = Shown-tree (Unit {0}) X NoneIsBad (IsBadAsked X N mfs.profile b.told mfs.root.cid) (λ role bytes bad. absurd bad) f w m b is cause in
           let rises = shown-rises X (IsBadAsked X N mfs.profile b.told mfs.root.cid) (fault_behind w) m b shown in
           let head = leaves-head m.told b.told leaves ∙ saves-head X a.told m.told e.saves in
@@ -201,10 +206,11 @@ module _ (X : List ℕ → List ℕ) (N : List ℕ → ℕ) (mfs : Mfs) (path : 
           }
 
       -- the tree is committed, and nothing is printed
-      pub is-committed : (text : List ℕ) → text ≡ [] → Commits new.profile new.root.cid m.told b.told → (last : Mfs)
-          → ((p : Profile) (es : Entries) → StandsAt X N m.told new p es → StandsAt X N b.told last p es × TellsAs X N b.told (Stands p es))
-          → StaysCalm m b → WorksAt X N mfs (Edits edit) path (Ok text) a b t0 t2
-      is-committed text nothing commits last stands_now later = record {
+      pub is-committed : (r : Result (Unit {0}) MfsFault) → IsRefusedAs RefusesInTree r (Ok tt) → (text : List ℕ) → text ≡ [] → OnOk r (Commits new.profile new.root.cid m.told b.told) → (last : Mfs)
+          → OnOk r ((p : Profile) (es : Entries) → StandsAt X N m.told new p es → StandsAt X N b.told last p es × TellsAs X N b.told (Stands p es))
+          → ShownInTree X NoneIsBad r m b → WorksAt X N mfs (Edits edit) path (Ok text) a b t0 t2
+      is-committed (Err f) is text nothing commits last stands_now later = absurd is
+      is-committed (Ok done) is text nothing commits last stands_now later = record {
         answers = λ p es at_tree stands calm2.
             let rises = calm-rises m b later in
             move-answers X N p es (edited_by X N edit path.names p es) new last m.told b.told text

@@ -36,11 +36,9 @@ use Rattle.uf_lenient.proofs.Denoting.{denoted-step}
 use Rattle.uf_command.specs.Dags.{IsApart, IsToldAs, by_dag, dag_refusal, file_at, tree_at, usual_limits}
 use Rattle.uf_command.specs.Kinds.{OfWrite, dag_kinds, fault_behind, may_close, refusal_kind}
 use Rattle.uf_top.specs.Reply.{Outside, World, in_world, reply}
-use Rattle.uf_command.specs.Statuses.{no_memory, status_of}
-use Rattle.uf_command.specs.declared.status.Status.TheVariants as status
+use Rattle.uf_command.specs.Statuses.{no_memory}
 use Rattle.uf_command.specs.declared.types.Command.{Command}
 use Rattle.uf_command.specs.declared.types.Command.TheVariants.{Cat}
-use Rattle.uf_command.specs.declared.types.DagRule.{DagRule}
 use Rattle.uf_command.specs.declared.types.DagRule.TheVariants as rule
 use Rattle.uf_command.specs.declared.types.Refusal.{Refusal}
 use Rattle.uf_command.specs.declared.types.Refusal.TheVariants as refusal
@@ -214,12 +212,11 @@ no-blame hash a b (refusal.Store fault.Memory) of h blames = blames
 pub record IsPlain (command : Command) (told : Told) (l m : streams.Told) (i : ℕ) (why : Refusal) : Type 0 where
   pub other : refusal_kind why ≢ OfWrite
   pub ready : IsReadyBy told command why
-  pub rule : status_of why ≡ status.Rule → (r : DagRule) × (why ≡ refusal.Dag r)
   pub reads : Counts (is_read {A = Unit {0}} (Err why)) i i
 
 pub plain-of : (command : Command) (told : Told) (l m : streams.Told) (i : ℕ) (why : Refusal) → IsOfReading why → IsPlain command told l m i why
 plain-of command told l m i (refusal.Rule r) of = absurd of
-plain-of command told l m i (refusal.Dag r) of = record { other = λ e. cc; ready = tt; rule = λ e. (r, refl); reads = counts-still i }
+plain-of command told l m i (refusal.Dag r) of = record { other = λ e. cc; ready = tt; reads = counts-still i }
 plain-of command told l m i (refusal.Host r) of = absurd of
 plain-of command told l m i (refusal.Car number place) of = absurd of
 plain-of command told l m i (refusal.CarLacks cid) of = absurd of
@@ -231,12 +228,12 @@ plain-of path told l m i refusal.Usage of = absurd of
 plain-of command told l m i (refusal.Ready r) of = absurd of
 plain-of path told l m i refusal.Read of = absurd of
 plain-of path told l m i refusal.Write of = absurd of
-plain-of command told l m i (refusal.Store fault.Failed) of = record { other = λ e. cc; ready = tt; rule = λ e. absurd cc; reads = counts-still i }
-plain-of command told l m i (refusal.Store (fault.Damaged cid)) of = record { other = λ e. cc; ready = tt; rule = λ e. absurd cc; reads = counts-still i }
-plain-of command told l m i (refusal.Store (fault.Missing cid)) of = record { other = λ e. cc; ready = tt; rule = λ e. absurd cc; reads = counts-still i }
-plain-of command told l m i (refusal.Store (fault.BadBlock cid role)) of = record { other = λ e. cc; ready = tt; rule = λ e. absurd cc; reads = counts-still i }
-plain-of command told l m i (refusal.Store (fault.Clash cid first second)) of = record { other = λ e. cc; ready = tt; rule = λ e. absurd cc; reads = counts-still i }
-plain-of command told l m i (refusal.Store fault.Memory) of = record { other = λ e. cc; ready = tt; rule = λ e. absurd cc; reads = counts-still i }
+plain-of command told l m i (refusal.Store fault.Failed) of = record { other = λ e. cc; ready = tt; reads = counts-still i }
+plain-of command told l m i (refusal.Store (fault.Damaged cid)) of = record { other = λ e. cc; ready = tt; reads = counts-still i }
+plain-of command told l m i (refusal.Store (fault.Missing cid)) of = record { other = λ e. cc; ready = tt; reads = counts-still i }
+plain-of command told l m i (refusal.Store (fault.BadBlock cid role)) of = record { other = λ e. cc; ready = tt; reads = counts-still i }
+plain-of command told l m i (refusal.Store (fault.Clash cid first second)) of = record { other = λ e. cc; ready = tt; reads = counts-still i }
+plain-of command told l m i (refusal.Store fault.Memory) of = record { other = λ e. cc; ready = tt; reads = counts-still i }
 
 -- the store's own refusal is want of memory, where it stayed calm
 pub own-wants : (hash : List ℕ → List ℕ) (a b : Seen) (why : Refusal) → IsOwnRefusal why → Shown hash NoneIsBad (fault_behind why) a b → Calm a b → why ≡ no_memory
@@ -312,7 +309,7 @@ module _ (X : List ℕ → List ℕ) (N : List ℕ → ℕ) (path : DagPath) (a 
         prints = quiet.prints h h2 (bytes, sent);
         kinds = reading-kinds X a b why of cause;
         ready = plain.ready;
-        rule = plain.rule;
+        long = tt;
         reads = plain.reads;
         host = refl;
         gets = tt;
@@ -348,7 +345,7 @@ module _ (X : List ℕ → List ℕ) (N : List ℕ → ℕ) (path : DagPath) (a 
     prints = (bytes, tt, sent);
     kinds = tt;
     ready = tt;
-    rule = tt;
+    long = tt;
     reads = counts-still i;
     host = refl;
     gets = tt;
@@ -385,7 +382,7 @@ module _ (X : List ℕ → List ℕ) (N : List ℕ → ℕ) (path : DagPath) (a 
     prints = (bytes, tt, whole-printed bytes h h2 sent);
     kinds = refl;
     ready = tt;
-    rule = λ is. absurd cc;
+    long = tt;
     reads = counts-still i;
     host = refl;
     gets = tt;

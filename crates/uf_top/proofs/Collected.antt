@@ -1,6 +1,6 @@
 -- What a collection keeps, lets go and leaves.
-use Rattle.std.proofs.Common.{◌≡◌, ◌⊎◌, ◌∙◌, ℕ, ◌<◌, ◌^◌, List, [], ◌∷◌, ◌++◌, Bool, true, false, cond, Contains, refl, sym, ap, subst, inl, inr, Option, Some, None, Result, Ok, Err}
-use Rattle.std.specs.Prelude.{IfSome}
+use Rattle.std.proofs.Common.{◌≡◌, ◌⊎◌, ◌∙◌, ℕ, ◌+◌, ◌≤◌, ◌<◌, ◌^◌, arith, length, List, [], ◌∷◌, ◌++◌, Bool, true, false, cond, Contains, refl, sym, ap, subst, inl, inr, Option, Some, None, Result, Ok, Err}
+use Rattle.std.specs.Prelude.{IfOk, IfSome}
 use Rattle.std.specs.FinMap.{get}
 use Rattle.std.specs.List.{AllByRecursion}
 use Rattle.std.proofs.lemmas.List.Elements.{Contains-append_left}
@@ -42,7 +42,7 @@ use Rattle.uf_command.specs.declared.status.Status.{Status}
 use Rattle.uf_command.specs.declared.types.Refusal.{Refusal}
 use Rattle.uf_command.specs.declared.types.Refusal.TheVariants as refusal
 use Rattle.uf_top.specs.Around.{Around, Said}
-use Rattle.uf_top.specs.Collecting.{EachSweepOutcome, FailsAs, GoesAs, KeepsFor, KeepsList, LeavesSome, LetsGoAndPrints, ReadsRoots, RunsGc, below_told, kept_below, kept_in, order_told, root_told, tree_roots}
+use Rattle.uf_top.specs.Collecting.{EachSweepOutcome, FailsAs, GoesAs, KeepsFor, KeepsList, LeavesSome, LetsGoAndPrints, ReadsRoots, RunsGc, TouchesKept, below_told, kept_below, kept_in, order_told, root_told, tree_roots}
 use Rattle.uf_top.specs.Outcomes.{IsSafeFor, LeavesTree}
 use Rattle.uf_top.specs.Working.{IsIdle}
 use Rattle.uf_top.proofs.Pins.{read-bad, read-same}
@@ -110,6 +110,35 @@ goes-unread t listed why before now (inr (inl e)) is same = subst (λ (r : Resul
 goes-unread t listed why before now (inr (inr said)) is same =
     let e : tree_roots t.notes.head ≡ Err why = subst (λ (x : Told). IfSome x (λ u. tree_roots u.notes.head ≡ Err why)) is said in
     inl (ap (λ (r : Result (List Cid) Refusal). kept_below (held_at t) r listed) e, same)
+
+-- ---- how many touches are made
+
+-- none
+pub touches-none : (told : Told) (was : ℕ) → TouchesKept told was was
+touches-none told was = record { each = λ t listed is read. none (kept_in t listed); most = omega arith }
+  where
+    none : (r : Result (List Cid) Refusal) → IfOk r (λ list. was ≤ was + length list)
+    none (Ok list) = omega arith
+    none (Err why) = tt
+
+-- those of `collect`
+pub touches-collected : (roots : List Cid) (before after : Told) (was now : ℕ) → ReadsRoots (Ok roots) before → after ≡ before → now ≤ was + most_blocks
+    → ((t : Contents) (pins : List Cid) → after ≡ Some t → Lists t.notes.pins pins → IfOk (reach (held_at t) most_blocks (roots ++ pins)) (λ list. now ≤ was + length list))
+    → TouchesKept before was now
+touches-collected roots before after was now said same most each = record { each = by; most = most }
+  where
+    told : (r : Result (List Cid) OrderFault) → IfOk r (λ list. now ≤ was + length list) → IfOk (order_told r) (λ list. now ≤ was + length list)
+    told (Ok list) h = h
+    told (Err why) h = tt
+
+    below : (t : Contents) (listed : Option (List Cid)) → before ≡ Some t → IsReadAs t.notes.pins listed → IfOk (below_told (held_at t) roots listed) (λ list. now ≤ was + length list)
+    below t None is read = tt
+    below t (Some pins) is read = told (reach (held_at t) most_blocks (roots ++ pins)) (each t pins (same ∙ is) read)
+
+    by : (t : Contents) (listed : Option (List Cid)) → before ≡ Some t → IsReadAs t.notes.pins listed → IfOk (kept_in t listed) (λ list. now ≤ was + length list)
+    by t listed is read =
+        subst (λ (r : Result (List Cid) Refusal). IfOk (kept_below (held_at t) r listed) (λ list. now ≤ was + length list)) (sym (roots-read roots t before said is))
+        (below t listed is read)
 
 -- ---- what is left
 
@@ -257,12 +286,13 @@ module _ (X : List ℕ → List ℕ) (N : List ℕ → ℕ) (given : Status) (do
         let found = note-read t.notes.pins in
         safe-left X N good small t u found.0 p es (subst (λ (x : Told). LeftOver t x (kept_in t found.0)) now (over-of t found.0 is found.1)) h
 
-    pub gc-runs : TellsEnd (Said a.errors b.errors) done given → b.left ≡ a.left → b.reads ≡ a.reads → b.host ≡ a.host → RunsGc X N given a b
-    gc-runs t left reads host = record {
+    pub gc-runs : TellsEnd (Said a.errors b.errors) done given → TouchesKept a.store.told a.touches b.touches → b.left ≡ a.left → b.reads ≡ a.reads → b.host ≡ a.host → RunsGc X N given a b
+    gc-runs t touches left reads host = record {
       done = done;
       tells = t;
       collects = does;
       keeps = gone-keeps;
+      touched = touches;
       stands = gone-stands a.store.told refl;
       safe = gone-safe;
       left = left;
@@ -281,6 +311,7 @@ module _ (X : List ℕ → List ℕ) (N : List ℕ → ℕ) (given : Status) (do
       prints = (refl, refl, counts-still a.writes);
     };
     keeps = λ c listed is read. all-kept c a.store.told (kept_in c listed) (inl is);
+    touched = touches-none a.store.told a.touches;
     stands = λ standing stands. stands;
     safe = λ c u p es is now h. subst (λ (v : Contents). IsSafeFor X N v p es) (let both : Some c ≡ Some u = sym is ∙ now in let same : c ≡ u = cc in same) h;
     left = refl;

@@ -20,10 +20,8 @@ use Rattle.uf_tree.specs.declared.profile.Profile.{Profile}
 use Rattle.uf_command.specs.Cars.{most_car}
 use Rattle.uf_command.specs.Natures.{OfCarSections}
 use Rattle.uf_command.specs.Kinds.{same_kinds, OfWrite, fault_behind, may_meet, refusal_kind}
-use Rattle.uf_command.specs.Statuses.{no_memory, status_of}
-use Rattle.uf_command.specs.declared.status.Status.TheVariants as status
+use Rattle.uf_command.specs.Statuses.{no_memory}
 use Rattle.uf_command.specs.declared.types.Command.TheVariants.{Same}
-use Rattle.uf_command.specs.declared.types.DagRule.{DagRule}
 use Rattle.uf_command.specs.declared.types.Refusal.{Refusal}
 use Rattle.uf_command.specs.declared.types.Refusal.TheVariants as refusal
 use Rattle.uf_top.specs.Answering.{DoesAnswer}
@@ -46,29 +44,28 @@ use Rattle.uf_top.proofs.Shows.{not-rose}
 record IsOfComparing (told : Told) (cid : Cid) (why : Refusal) : Type 0 where
   other : refusal_kind why ≢ OfWrite
   ready : IsReadyBy told (Same cid) why
-  rule : status_of why ≡ status.Rule → ((rule : DagRule) × (why ≡ refusal.Dag rule)) ⊎ ((number : ℕ) × (place : ℕ) × (why ≡ refusal.Car number place))
   blames : IsBlaming (fault_behind why) → ⊥
 
 of-comparing : (told : Told) (cid : Cid) (why : Refusal) → may_meet same_kinds (refusal_kind why) ≡ true → IsOfComparing told cid why
 of-comparing told cid (refusal.Rule rule) h = absurd cc
-of-comparing told cid (refusal.Dag rule) h = record { other = λ e. cc; ready = tt; rule = λ e. inl (rule, refl); blames = λ b. b }
+of-comparing told cid (refusal.Dag rule) h = record { other = λ e. cc; ready = tt; blames = λ b. b }
 of-comparing told cid (refusal.Host rule) h = absurd cc
 of-comparing told cid (refusal.BadPath why) h = absurd cc
 of-comparing told cid refusal.InputTooLong h = absurd cc
 of-comparing told cid refusal.BadPins h = absurd cc
 of-comparing told cid refusal.Usage h = absurd cc
 of-comparing told cid (refusal.Ready why) h = absurd cc
-of-comparing told cid refusal.Read h = record { other = λ e. cc; ready = tt; rule = λ e. absurd cc; blames = λ b. b }
+of-comparing told cid refusal.Read h = record { other = λ e. cc; ready = tt; blames = λ b. b }
 of-comparing told cid refusal.Write h = absurd cc
-of-comparing told cid (refusal.Store fault.Failed) h = record { other = λ e. cc; ready = tt; rule = λ e. absurd cc; blames = λ b. b }
-of-comparing told cid (refusal.Store (fault.Damaged c)) h = record { other = λ e. cc; ready = tt; rule = λ e. absurd cc; blames = λ b. b }
-of-comparing told cid (refusal.Store (fault.Missing c)) h = record { other = λ e. cc; ready = tt; rule = λ e. absurd cc; blames = λ b. b }
+of-comparing told cid (refusal.Store fault.Failed) h = record { other = λ e. cc; ready = tt; blames = λ b. b }
+of-comparing told cid (refusal.Store (fault.Damaged c)) h = record { other = λ e. cc; ready = tt; blames = λ b. b }
+of-comparing told cid (refusal.Store (fault.Missing c)) h = record { other = λ e. cc; ready = tt; blames = λ b. b }
 of-comparing told cid (refusal.Store (fault.BadBlock c role)) h = absurd cc
-of-comparing told cid (refusal.Store (fault.Clash c first second)) h = record { other = λ e. cc; ready = tt; rule = λ e. absurd cc; blames = λ b. b }
-of-comparing told cid (refusal.Store fault.Memory) h = record { other = λ e. cc; ready = tt; rule = λ e. absurd cc; blames = λ b. b }
-of-comparing told cid (refusal.Car number place) h = record { other = λ e. cc; ready = tt; rule = λ e. inr (number, place, refl); blames = λ b. b }
-of-comparing told cid (refusal.CarLacks c) h = record { other = λ e. cc; ready = tt; rule = λ e. absurd cc; blames = λ b. b }
-of-comparing told cid (refusal.OwnClash c first second) h = record { other = λ e. cc; ready = tt; rule = λ e. absurd cc; blames = λ b. b }
+of-comparing told cid (refusal.Store (fault.Clash c first second)) h = record { other = λ e. cc; ready = tt; blames = λ b. b }
+of-comparing told cid (refusal.Store fault.Memory) h = record { other = λ e. cc; ready = tt; blames = λ b. b }
+of-comparing told cid (refusal.Car number place) h = record { other = λ e. cc; ready = tt; blames = λ b. b }
+of-comparing told cid (refusal.CarLacks c) h = record { other = λ e. cc; ready = tt; blames = λ b. b }
+of-comparing told cid (refusal.OwnClash c first second) h = record { other = λ e. cc; ready = tt; blames = λ b. b }
 
 -- a failed writing blames no section
 pub printed-sections : (X : List ℕ → List ℕ) (left : streams.Told) (a b : Seen) (text : List ℕ) (h h2 : streams.Told) (w v : ℕ) (r : Result (Unit {0}) Refusal) → Prints text r h h2 w v → IfErr r (ByOwnStore X OfCarSections left a b)
@@ -101,7 +98,7 @@ module _ (X : List ℕ → List ℕ) (N : List ℕ → ℕ) (cid : Cid) (a b : S
         prints = quiet.prints h h (else-same false h);
         kinds = may-end (Same cid) why k.kinds;
         ready = of.ready;
-        rule = of.rule;
+        long = tt;
         reads = k.counts;
         host = refl;
         gets = tt;
@@ -142,7 +139,7 @@ module _ (X : List ℕ → List ℕ) (N : List ℕ → ℕ) (cid : Cid) (a b : S
       prints = (text, tt, is);
       kinds = tt;
       ready = tt;
-      rule = tt;
+      long = tt;
       reads = k.counts;
       host = refl;
       gets = tt;
@@ -175,7 +172,7 @@ module _ (X : List ℕ → List ℕ) (N : List ℕ → ℕ) (cid : Cid) (a b : S
       prints = (text, tt, c.printed);
       kinds = refl;
       ready = tt;
-      rule = λ is. absurd cc;
+      long = tt;
       reads = k.counts;
       host = refl;
       gets = tt;

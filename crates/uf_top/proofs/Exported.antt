@@ -143,7 +143,7 @@ module _ (X : List ℕ → List ℕ) (N : List ℕ → ℕ) (cid : Cid) (a b : S
         prints = quiet.prints h h2 (bytes, sent);
         kinds = reading-kinds X a b why of cause;
         ready = plain.ready;
-        rule = plain.rule;
+        long = tt;
         reads = plain.reads;
         host = refl;
         gets = tt;
@@ -179,7 +179,7 @@ module _ (X : List ℕ → List ℕ) (N : List ℕ → ℕ) (cid : Cid) (a b : S
     prints = (bytes, tt, sent);
     kinds = tt;
     ready = tt;
-    rule = tt;
+    long = tt;
     reads = counts-still i;
     host = refl;
     gets = tt;
@@ -216,7 +216,7 @@ module _ (X : List ℕ → List ℕ) (N : List ℕ → ℕ) (cid : Cid) (a b : S
     prints = (bytes, tt, whole-printed bytes h h2 sent);
     kinds = refl;
     ready = tt;
-    rule = λ is. absurd cc;
+    long = tt;
     reads = counts-still i;
     host = refl;
     gets = tt;

@@ -45,8 +45,7 @@ use Rattle.uf_tree.specs.declared.profile.Profile.{Profile}
 use Rattle.uf_command.specs.Natures.{NoWrites}
 use Rattle.uf_command.specs.Kinds.{IsOf, tree_kinds, fault_kind, may_close, refusal_fault}
 use Rattle.uf_top.specs.Reply.{in_tree, looked, read_reply}
-use Rattle.uf_command.specs.Statuses.{ended, fault_status, no_memory, status_of}
-use Rattle.uf_command.specs.declared.status.Status.TheVariants as status
+use Rattle.uf_command.specs.Statuses.{ended, fault_status, no_memory}
 use Rattle.uf_command.specs.declared.types.Ask.TheVariants.{Stat}
 use Rattle.uf_command.specs.declared.types.Command.{Command}
 use Rattle.uf_command.specs.declared.types.Command.TheVariants.{At, Read}
@@ -55,7 +54,7 @@ use Rattle.uf_command.specs.declared.types.Refusal.TheVariants as refusal
 use Rattle.uf_top.specs.Answering.{DoesReply, DoesWant}
 use Rattle.uf_top.specs.Around.{HostSide, RisesFor, SinkSide, around}
 use Rattle.uf_top.specs.Causes.{IsBadIn, IsReady, IsReadyBy, IsSendingFault, RefusesOpening, RefusesSending, is_read, is_write}
-use Rattle.uf_top.specs.Endings.{FindsAll, PrintsAt, PrintsPart, RuleOf}
+use Rattle.uf_top.specs.Endings.{FindsAll, PrintsAt, PrintsPart}
 use Rattle.uf_top.specs.Losing.{DoesOver, part_needs, rows_found}
 use Rattle.uf_top.specs.Naming.{NamesAfter, NamesAs}
 use Rattle.uf_top.specs.Shapes.{WritesAs, is_done}
@@ -65,7 +64,7 @@ use Rattle.uf_top.proofs.Finding.{read-whole}
 use Rattle.uf_top.proofs.InTree.{not-opened, opening-ready}
 use Rattle.uf_top.proofs.Losing.{names-of, names-same, opening-over}
 use Rattle.uf_top.proofs.Printing.{after-nothing, of-no-host, refused-does, whole-printed}
-use Rattle.uf_top.proofs.Shows.{Shown-opening, bad-of-none, counts-still, head_of, opening-touched}
+use Rattle.uf_top.proofs.Shows.{Shown-opening, bad-of-none, counts-still, head_of, none-long, opening-touched}
 use Rattle.uf_top.proofs.Standings.{stands-same, tells-none}
 
 -- the reason that holds of one command on the tree holds of another
@@ -209,21 +208,6 @@ sent-prints IsText h h2 bytes is now done (ByStore f e) = subst (λ d. PrintsAt 
     by (fault.BadBlock cid role) = (bytes, now)
     by (fault.Clash cid held other) = (bytes, now)
     by fault.Memory = (bytes, now)
-
-sent-rule : (offset count : ℕ) (path : Path) (told : Told) (l m : streams.Told) (done : Result (Unit {0}) Refusal) → SentKind done
-    → IfErr done (λ why. status_of why ≡ status.Rule → RuleOf (Read offset count path) why told l m)
-sent-rule offset count path told l m done (Whole e) = subst (λ d. IfErr d (λ why. status_of why ≡ status.Rule → RuleOf (Read offset count path) why told l m)) (sym e) tt
-sent-rule offset count path told l m done (ByRule rule e) = subst (λ d. IfErr d (λ why. status_of why ≡ status.Rule → RuleOf (Read offset count path) why told l m)) (sym e) (λ is. (rule, refl))
-sent-rule offset count path told l m done (BySink e) = subst (λ d. IfErr d (λ why. status_of why ≡ status.Rule → RuleOf (Read offset count path) why told l m)) (sym e) (λ is. absurd cc)
-sent-rule offset count path told l m done (ByStore f e) = subst (λ d. IfErr d (λ why. status_of why ≡ status.Rule → RuleOf (Read offset count path) why told l m)) (sym e) (by f)
-  where
-    by : (f : StoreFault) → status_of (refusal.Store f) ≡ status.Rule → RuleOf (Read offset count path) (refusal.Store f) told l m
-    by fault.Failed is = absurd cc
-    by (fault.Damaged cid) is = absurd cc
-    by (fault.Missing cid) is = absurd cc
-    by (fault.BadBlock cid role) is = absurd cc
-    by (fault.Clash cid held other) is = absurd cc
-    by fault.Memory is = absurd cc
 
 sent-touched : (r : Result ℕ MfsFault) (done : Result (Unit {0}) Refusal) (t1 t2 : ℕ) → SentAs r done → CountsUp (tree_fault r) t1 t2 → CountsUp (refusal_fault done) t1 t2
 sent-touched (Ok n) done t1 t2 sent h = subst (λ d. CountsUp (refusal_fault d) t1 t2) (sym sent) h
@@ -413,7 +397,7 @@ module _ (X : List ℕ → List ℕ) (N : List ℕ → ℕ) (offset count : ℕ)
       prints = sent-prints (λ text. ⊤) h h2 sends.appends.bytes tt sends.appends.appended done kind;
       kinds = sent-kinds done kind;
       ready = sent-ready a.told (Read offset count path) done kind;
-      rule = sent-rule offset count path a.told l l done kind;
+      long = none-long done;
       reads = sent-reads done i kind;
       host = refl;
       gets = tt;

@@ -43,7 +43,7 @@ use Rattle.uf_command.specs.declared.types.Refusal.TheVariants as refusal
 use Rattle.uf_top.specs.Answering.{DoesAnswer}
 use Rattle.uf_top.specs.Around.{HostSide, SinkSide, around}
 use Rattle.uf_top.specs.Causes.{IsBadIn, IsReady, IsReadyBy, is_read, is_write}
-use Rattle.uf_top.specs.Endings.{EndsBy, PrintsAt, RuleOf}
+use Rattle.uf_top.specs.Endings.{EndsBy, PrintsAt}
 use Rattle.uf_top.specs.Foreign.{FindsTree, IsOfReading, IsOwnRefusal, LeadsTo}
 use Rattle.uf_top.specs.Getting.{Gets, IsGotten, IsGottenInPart, IsNotGotten, IsOfGetting, IsUnwritten, LeavesAt}
 use Rattle.uf_top.specs.HostTexts.{host_refusal}
@@ -56,7 +56,7 @@ use Rattle.uf_top.proofs.Cats.{below-fault, of-reading, own-wants, same-fault, t
 use Rattle.uf_top.proofs.Grafted.{fault-tree}
 use Rattle.uf_top.proofs.Losing.{names-same}
 use Rattle.uf_top.proofs.Printing.{after-nothing, nothing-printed, rises-still, whole-printed}
-use Rattle.uf_top.proofs.Shows.{counts-still, not-rose}
+use Rattle.uf_top.proofs.Shows.{counts-still, none-long, not-rose}
 
 -- ---- a tree that is put on the host, or isn't
 
@@ -386,30 +386,29 @@ module _ (source : DagPath) (path : List ℕ) (f : HostFault) (why : Refusal) (i
 pub record IsRefused (why : Refusal) (told : Told) (source : DagPath) (path : List ℕ) (l : streams.Told) : Type 0 where
   pub kinds : may_close get_kinds (refusal_kind why) ≡ true
   pub ready : IsReadyBy told (Get source path) why
-  pub rule : status_of why ≡ status.Rule → RuleOf (Get source path) why told l l
   pub prints : (held : streams.Told) → PrintsAt (λ text. text ≡ []) false (status_of why) held held
   pub blames : IsBlaming (fault_behind why) → ⊥
 
 of-getting : (hash : List ℕ → List ℕ) (a b : Seen) (told : Told) (source : DagPath) (path : List ℕ) (l : streams.Told) (why : Refusal) → IsOfGetting why → Shown hash NoneIsBad (fault_behind why) a b → IsRefused why told source path l
 of-getting hash a b told source path l (refusal.Rule r) of h = absurd of
-of-getting hash a b told source path l (refusal.Dag r) of h = record { kinds = refl; ready = tt; rule = λ e. inr (r, refl); prints = λ held. refl; blames = λ blames. blames }
+of-getting hash a b told source path l (refusal.Dag r) of h = record { kinds = refl; ready = tt; prints = λ held. refl; blames = λ blames. blames }
 of-getting hash a b told source path l (refusal.Car number place) of h = absurd of
 of-getting hash a b told source path l (refusal.CarLacks cid) of h = absurd of
 of-getting hash a b told source path l (refusal.OwnClash cid first second) of h = absurd of
-of-getting hash a b told source path l (refusal.Host r) of h = record { kinds = refl; ready = tt; rule = λ e. inl (r, refl); prints = λ held. refl; blames = λ blames. blames }
+of-getting hash a b told source path l (refusal.Host r) of h = record { kinds = refl; ready = tt; prints = λ held. refl; blames = λ blames. blames }
 of-getting hash a b told source path l (refusal.BadPath p) of h = absurd of
 of-getting hash a b told source path l refusal.InputTooLong of h = absurd of
 of-getting hash a b told source path l refusal.BadPins of h = absurd of
 of-getting hash a b told source path l refusal.Usage of h = absurd of
 of-getting hash a b told source path l (refusal.Ready r) of h = absurd of
-of-getting hash a b told source path l refusal.Read of h = record { kinds = refl; ready = tt; rule = λ e. absurd cc; prints = λ held. refl; blames = λ blames. blames }
-of-getting hash a b told source path l refusal.Write of h = record { kinds = refl; ready = tt; rule = λ e. absurd cc; prints = λ held. ([], refl, whole-printed [] held held (after-nothing held)); blames = λ blames. blames }
-of-getting hash a b told source path l (refusal.Store fault.Failed) of h = record { kinds = refl; ready = tt; rule = λ e. absurd cc; prints = λ held. refl; blames = λ blames. blames }
-of-getting hash a b told source path l (refusal.Store (fault.Damaged cid)) of h = record { kinds = refl; ready = tt; rule = λ e. absurd cc; prints = λ held. refl; blames = λ blames. blames }
-of-getting hash a b told source path l (refusal.Store (fault.Missing cid)) of h = record { kinds = refl; ready = tt; rule = λ e. absurd cc; prints = λ held. refl; blames = λ blames. blames }
+of-getting hash a b told source path l refusal.Read of h = record { kinds = refl; ready = tt; prints = λ held. refl; blames = λ blames. blames }
+of-getting hash a b told source path l refusal.Write of h = record { kinds = refl; ready = tt; prints = λ held. ([], refl, whole-printed [] held held (after-nothing held)); blames = λ blames. blames }
+of-getting hash a b told source path l (refusal.Store fault.Failed) of h = record { kinds = refl; ready = tt; prints = λ held. refl; blames = λ blames. blames }
+of-getting hash a b told source path l (refusal.Store (fault.Damaged cid)) of h = record { kinds = refl; ready = tt; prints = λ held. refl; blames = λ blames. blames }
+of-getting hash a b told source path l (refusal.Store (fault.Missing cid)) of h = record { kinds = refl; ready = tt; prints = λ held. refl; blames = λ blames. blames }
 of-getting hash a b told source path l (refusal.Store (fault.BadBlock cid role)) of h = absurd h.bad
-of-getting hash a b told source path l (refusal.Store (fault.Clash cid first second)) of h = record { kinds = refl; ready = tt; rule = λ e. absurd cc; prints = λ held. refl; blames = λ blames. blames }
-of-getting hash a b told source path l (refusal.Store fault.Memory) of h = record { kinds = refl; ready = tt; rule = λ e. absurd cc; prints = λ held. refl; blames = λ blames. blames }
+of-getting hash a b told source path l (refusal.Store (fault.Clash cid first second)) of h = record { kinds = refl; ready = tt; prints = λ held. refl; blames = λ blames. blames }
+of-getting hash a b told source path l (refusal.Store fault.Memory) of h = record { kinds = refl; ready = tt; prints = λ held. refl; blames = λ blames. blames }
 
 module _ (X : List ℕ → List ℕ) (N : List ℕ → ℕ) (source : DagPath) (path : List ℕ) (a b : Seen) (same : b.told ≡ a.told) (l : streams.Told) (i : ℕ) (h : streams.Told) (w t0 t1 : ℕ) (s t : HostSide) (er er2 : SinkSide) where
   by-told : (A : Lookup → Type 0) (held : Lookup) → TellsBlocks a.told held → IfSome a.told (λ t. A (held_at t)) → A held
@@ -453,16 +452,15 @@ module _ (X : List ℕ → List ℕ) (N : List ℕ → ℕ) (source : DagPath) (
   pub record IsEnded (done : Result (Unit {0}) Refusal) : Type 0 where
     pub kinds : IsOf (may_close get_kinds) done
     pub ready : IsReady a.told (Get source path) done
-    pub rule : IfErr done (λ why. status_of why ≡ status.Rule → RuleOf (Get source path) why a.told l l)
     pub prints : PrintsAt (λ text. text ≡ []) false (ended done) h h
     pub blames : IsBlaming (refusal_fault done) → ⊥
     pub head : IfErr done (λ why. head_in b.told ≡ head_in a.told)
 
   ended-of : (done : Result (Unit {0}) Refusal) → IfErr done IsOfGetting → Shown X NoneIsBad (refusal_fault done) a b → IsEnded done
-  ended-of (Ok done) kind cause = record { kinds = tt; ready = tt; rule = tt; prints = ([], refl, after-nothing h); blames = λ blames. blames; head = tt }
+  ended-of (Ok done) kind cause = record { kinds = tt; ready = tt; prints = ([], refl, after-nothing h); blames = λ blames. blames; head = tt }
   ended-of (Err why) kind cause =
       let so = of-getting X a b a.told source path l why kind cause in
-      record { kinds = so.kinds; ready = so.ready; rule = so.rule; prints = so.prints h; blames = so.blames; head = ap head_in same }
+      record { kinds = so.kinds; ready = so.ready; prints = so.prints h; blames = so.blames; head = ap head_in same }
 
   module _ (done : Result (Unit {0}) Refusal) (gets : IfSome a.told (λ c. Gets (held_at c) source path s.told t.told done)) (below : ChangesAt (trimmed path) s.told t.told) (kind : IfErr done IsOfGetting)
       (reads : Counts (is_read done) s.reads t.reads) (writes : Counts (is_write done) s.writes t.writes) (cause : Shown X NoneIsBad (refusal_fault done) a b) where
@@ -510,7 +508,7 @@ module _ (X : List ℕ → List ℕ) (N : List ℕ → ℕ) (source : DagPath) (
       prints = so.prints;
       kinds = so.kinds;
       ready = so.ready;
-      rule = so.rule;
+      long = none-long done;
       reads = counts-still i;
       host = record { reads = reads; writes = writes };
       gets = record { below = below; leaves = stands-left a.told gets };

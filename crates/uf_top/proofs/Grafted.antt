@@ -48,7 +48,7 @@ use Rattle.uf_tree.specs.declared.nodes.Entry.{Entry}
 use Rattle.uf_tree.specs.declared.profile.Profile.{Profile}
 use Rattle.uf_varint.specs.Fields.{◌>>=◌}
 use Rattle.uf_command.specs.Dags.{IsApart, IsToldAs, adopted_name, by_dag, dag_refusal, tree_at, usual_limits}
-use Rattle.uf_command.specs.Kinds.{fault_behind, fault_kind, refusal_kind}
+use Rattle.uf_command.specs.Kinds.{fault_behind, fault_kind, refusal_fault, refusal_kind}
 use Rattle.uf_top.specs.Reply.{adopted, by_rule, grafted, with_plan}
 use Rattle.uf_command.specs.declared.types.Refusal.{Refusal}
 use Rattle.uf_command.specs.declared.types.Refusal.TheVariants as refusal
@@ -270,6 +270,10 @@ up-counts A why t0 t1 t2 low up = record { kept = tt; risen = λ blames. let mor
 
 pub up-ok : (A : Type 0) (x : A) (t0 t1 : ℕ) → t0 ≤ t1 → TouchesUp (Ok x) t0 t1
 up-ok A x t0 t1 low = record { kept = low; risen = λ blames. absurd blames }
+
+pub up-given : (A : Type 0) (r : Result A Refusal) (t0 t1 t2 : ℕ) → t0 ≤ t1 → CountsUp (refusal_fault r) t1 t2 → TouchesUp r t0 t2
+up-given A (Ok x) t0 t1 t2 low up = up-ok A x t0 t2 (let more = up.kept in omega (arith, low, more))
+up-given A (Err why) t0 t1 t2 low up = up-counts A why t0 t1 t2 low up
 
 pub up-after : (A : Type 0) (r : Result A Refusal) (t0 t1 t2 : ℕ) → t0 ≤ t1 → TouchesUp r t1 t2 → TouchesUp r t0 t2
 up-after A (Ok x) t0 t1 t2 low up = up-ok A x t0 t2 (let more = up.kept in omega (arith, low, more))

@@ -254,7 +254,6 @@ module _ (X : List ℕ → List ℕ) where
 record IsOfCar (told : Told) (why : Refusal) : Type 0 where
   other : refusal_kind why ≢ OfWrite
   ready : IsReadyBy told Import why
-  rule : status_of why ≡ status.Rule → (number : ℕ) × (place : ℕ) × (why ≡ refusal.Car number place)
   blames : IsBlaming (fault_behind why) → ⊥
 
 of-car : (told : Told) (why : Refusal) → may_meet import_kinds (refusal_kind why) ≡ true → IsOfCar told why
@@ -266,15 +265,15 @@ of-car told refusal.InputTooLong h = absurd cc
 of-car told refusal.BadPins h = absurd cc
 of-car told refusal.Usage h = absurd cc
 of-car told (refusal.Ready why) h = absurd cc
-of-car told refusal.Read h = record { other = λ e. cc; ready = tt; rule = λ e. absurd cc; blames = λ b. b }
+of-car told refusal.Read h = record { other = λ e. cc; ready = tt; blames = λ b. b }
 of-car told refusal.Write h = absurd cc
-of-car told (refusal.Store fault.Failed) h = record { other = λ e. cc; ready = tt; rule = λ e. absurd cc; blames = λ b. b }
-of-car told (refusal.Store (fault.Damaged cid)) h = record { other = λ e. cc; ready = tt; rule = λ e. absurd cc; blames = λ b. b }
+of-car told (refusal.Store fault.Failed) h = record { other = λ e. cc; ready = tt; blames = λ b. b }
+of-car told (refusal.Store (fault.Damaged cid)) h = record { other = λ e. cc; ready = tt; blames = λ b. b }
 of-car told (refusal.Store (fault.Missing cid)) h = absurd cc
 of-car told (refusal.Store (fault.BadBlock cid role)) h = absurd cc
-of-car told (refusal.Store (fault.Clash cid first second)) h = record { other = λ e. cc; ready = tt; rule = λ e. absurd cc; blames = λ b. b }
-of-car told (refusal.Store fault.Memory) h = record { other = λ e. cc; ready = tt; rule = λ e. absurd cc; blames = λ b. b }
-of-car told (refusal.Car number place) h = record { other = λ e. cc; ready = tt; rule = λ e. (number, place, refl); blames = λ b. b }
+of-car told (refusal.Store (fault.Clash cid first second)) h = record { other = λ e. cc; ready = tt; blames = λ b. b }
+of-car told (refusal.Store fault.Memory) h = record { other = λ e. cc; ready = tt; blames = λ b. b }
+of-car told (refusal.Car number place) h = record { other = λ e. cc; ready = tt; blames = λ b. b }
 of-car told (refusal.CarLacks cid) h = absurd cc
 of-car told (refusal.OwnClash cid first second) h = absurd cc
 
@@ -306,7 +305,7 @@ module _ (X : List ℕ → List ℕ) (N : List ℕ → ℕ) (a b : Seen) (l m : 
         prints = quiet.prints h h (else-same false h);
         kinds = may-end Import why k.kinds;
         ready = of.ready;
-        rule = of.rule;
+        long = tt;
         reads = k.counts;
         host = refl;
         gets = tt;
@@ -352,7 +351,7 @@ module _ (X : List ℕ → List ℕ) (N : List ℕ → ℕ) (a b : Seen) (l m : 
       prints = (text, k.added, is);
       kinds = tt;
       ready = tt;
-      rule = tt;
+      long = tt;
       reads = k.counts;
       host = refl;
       gets = tt;
@@ -387,7 +386,7 @@ module _ (X : List ℕ → List ℕ) (N : List ℕ → ℕ) (a b : Seen) (l m : 
       prints = (text, k.added, c.printed);
       kinds = refl;
       ready = tt;
-      rule = λ is. absurd cc;
+      long = tt;
       reads = k.counts;
       host = refl;
       gets = tt;

@@ -56,7 +56,6 @@ use Rattle.uf_tree.specs.declared.profile.Profile.{Profile}
 use Rattle.uf_command.specs.Natures.{NoWrites}
 use Rattle.uf_command.specs.Kinds.{refusal_fault}
 use Rattle.uf_command.specs.Statuses.{ended, no_memory, status_of}
-use Rattle.uf_command.specs.declared.status.Status.TheVariants as status
 use Rattle.uf_command.specs.declared.types.Ask.TheVariants.{Stat}
 use Rattle.uf_command.specs.declared.types.Command.TheVariants.{At, Prove}
 use Rattle.uf_command.specs.declared.types.Refusal.{Refusal}
@@ -64,7 +63,7 @@ use Rattle.uf_command.specs.declared.types.Refusal.TheVariants as refusal
 use Rattle.uf_top.specs.Answering.{Answers, DoesReply, DoesWant}
 use Rattle.uf_top.specs.Around.{HostSide, RisesFor, SinkSide, around}
 use Rattle.uf_top.specs.Causes.{IsBadIn, IsReadyBy, RefusesOpening, is_write}
-use Rattle.uf_top.specs.Endings.{EndsBy, FindsAll, PrintsPart, RuleOf}
+use Rattle.uf_top.specs.Endings.{EndsBy, FindsAll, PrintsPart}
 use Rattle.uf_top.specs.Light.{EndsLight, IsLightTold, height_found, light_refusal, proof_told}
 use Rattle.uf_top.specs.Losing.{DoesOver, rows_found}
 use Rattle.uf_top.specs.Naming.{NamesAfter, NamesAs}
@@ -76,7 +75,7 @@ use Rattle.uf_top.proofs.FileSent.{BySink, ByRule, ByStore, SentKind, Whole, hei
 use Rattle.uf_top.proofs.InTree.{not-opened, opening-ready}
 use Rattle.uf_top.proofs.Losing.{names-of, names-same, opening-over}
 use Rattle.uf_top.proofs.Printing.{of-no-host, refused-does}
-use Rattle.uf_top.proofs.Shows.{Shown-opening, bad-of-none, head_of, opening-touched}
+use Rattle.uf_top.proofs.Shows.{Shown-opening, bad-of-none, head_of, none-long, opening-touched}
 use Rattle.uf_top.proofs.Standings.{stands-same, tells-none}
 use Rattle.uf_top.proofs.Tall.{found-tall}
 
@@ -128,21 +127,6 @@ module _ (names : List (List ℕ)) (C : Result ℕ LightFault → Result (Unit {
 
 kind-of : (names : List (List ℕ)) (r : Result ℕ LightFault) (done : Result (Unit {0}) Refusal) → EndsLight names r done → IfErr r IsNoCar → SentKind done
 kind-of names = by-end names (λ r done. SentKind done) (λ n. Whole refl) (λ f rule none quiet is. ByRule rule refl) (λ f none quiet. ByStore fault.Memory refl) (BySink refl) (λ f. ByStore f refl)
-
-rule-kept : (absent : Bool) (path : Path) (told : Told) (l m : streams.Told) (done : Result (Unit {0}) Refusal) → SentKind done
-    → IfErr done (λ why. status_of why ≡ status.Rule → RuleOf (Prove absent path) why told l m)
-rule-kept absent path told l m done (Whole e) = subst (λ d. IfErr d (λ why. status_of why ≡ status.Rule → RuleOf (Prove absent path) why told l m)) (sym e) tt
-rule-kept absent path told l m done (ByRule rule e) = subst (λ d. IfErr d (λ why. status_of why ≡ status.Rule → RuleOf (Prove absent path) why told l m)) (sym e) (λ is. (rule, refl))
-rule-kept absent path told l m done (BySink e) = subst (λ d. IfErr d (λ why. status_of why ≡ status.Rule → RuleOf (Prove absent path) why told l m)) (sym e) (λ is. absurd cc)
-rule-kept absent path told l m done (ByStore f e) = subst (λ d. IfErr d (λ why. status_of why ≡ status.Rule → RuleOf (Prove absent path) why told l m)) (sym e) (by f)
-  where
-    by : (f : StoreFault) → status_of (refusal.Store f) ≡ status.Rule → RuleOf (Prove absent path) (refusal.Store f) told l m
-    by fault.Failed is = absurd cc
-    by (fault.Damaged cid) is = absurd cc
-    by (fault.Missing cid) is = absurd cc
-    by (fault.BadBlock cid role) is = absurd cc
-    by (fault.Clash cid held other) is = absurd cc
-    by fault.Memory is = absurd cc
 
 -- what it shows, and how often its output failed
 module _ (names : List (List ℕ)) (hash : List ℕ → List ℕ) (P : Role → List ℕ → Type 0) (a b : Seen) (w v t1 t2 : ℕ) (r : Result ℕ LightFault) (done : Result (Unit {0}) Refusal) (ends : EndsLight names r done) (own : IfErr r IsNoCar) where
@@ -427,7 +411,7 @@ module _ (X : List ℕ → List ℕ) (N : List ℕ → ℕ) (absent : Bool) (pat
       prints = sent-prints (λ text. ⊤) h h2 bytes tt sends done kind;
       kinds = sent-kinds done kind;
       ready = sent-ready a.told (Prove absent path) done kind;
-      rule = rule-kept absent path a.told l l done kind;
+      long = none-long done;
       reads = sent-reads done i kind;
       host = refl;
       gets = tt;

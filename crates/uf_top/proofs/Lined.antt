@@ -22,7 +22,7 @@ use Rattle.uf_words.specs.declared.command.Cmd.{Cmd}
 use Rattle.uf_top.specs.Around.{Around, Said, SinkSide}
 use Rattle.uf_top.specs.Batch.{ClosesLine, DoesLine, LineDone, LineGone, LinesDone, PrintsCut, PrintsWhole, ServesLine, output_of, LineServed}
 use Rattle.uf_command.specs.Telling.{TellsEnd}
-use Rattle.uf_top.proofs.Runs.{runs-told}
+use Rattle.uf_top.proofs.Runs.{blames-of, runs-told}
 use Rattle.uf_top.proofs.Serving.{words-spare}
 
 -- ---- words of a line
@@ -73,6 +73,7 @@ module _ (X : List ℕ → List ℕ) (N : List ℕ → ℕ) (line : List ℕ) (d
     asked = s.asked;
     asks = s.asks;
     runs = runs-told given X N a (record m { errors = err_now }) s.asked done (asks-words line s.asked s.asks) s.serves s.own s.kinds told;
+    blames = blames-of given X N a (record m { errors = err_now }) s.asked done s.serves (asks-words line s.asked s.asks) told;
   }
 
   abbrev now : SinkSide → SinkSide → Around

@@ -1,6 +1,6 @@
 -- How a command is done that opens a tree, or makes a store ready for one.
 use Rattle.std.proofs.Common.{◌≡◌, ℕ, ◌+◌, ◌≤◌, List, [], false, arith, refl, sym, ap, subst, ◌∙◌, Some, None, Result, Ok, Err}
-use Rattle.std.specs.Prelude.{IfSome}
+use Rattle.std.specs.Prelude.{IfErr, IfOk, IfSome, OnErr}
 use Rattle.uf_edge.specs.Counts.{Stood}
 use Rattle.uf_edge.specs.Streams as streams
 use Rattle.uf_mfs.specs.Answers.{ShownOpening}
@@ -50,6 +50,7 @@ use Rattle.uf_top.proofs.InTree.{init-ready, inits-err, inits-ok, not-opened, op
 use Rattle.uf_top.proofs.Classed.{init-counts, init-kinds, opened-of, opened-ready, opening-kinds, tree-counts}
 use Rattle.uf_top.proofs.Finding.{at-whole, init-looks}
 use Rattle.uf_top.proofs.Losing.{inits-over, named-from, names-kept, names-same, not-inited, opening-over, over-more}
+use Rattle.uf_top.proofs.Refusing.{IsRefusedAs}
 use Rattle.uf_top.proofs.Saved.{can-rise-later, no-other-commits, no-other-leaves, no-other-same, no-other-then, still-stood}
 use Rattle.uf_top.proofs.Shaped.{profile-said, tree-wrote}
 use Rattle.uf_top.proofs.Shows.{Shown-opening, bad-of-head, bad-of-none, counts-still, opening-touched}
@@ -162,10 +163,11 @@ module _ (X : List ℕ → List ℕ) (N : List ℕ → ℕ) where
 
   module _ (p : Profile) (a b : Seen) (good : KeepsGood X a.told b.told) (left : streams.Told) (reads : ℕ) (h : streams.Told) (w t0 t1 : ℕ) (side : HostSide) (er er2 : SinkSide) where
     -- the store isn't made ready
-    pub init-refused : (f : MfsFault) (why : Refusal) → RefusesOpening f why
-        → IfSome a.told (λ t. Stood a.faults b.faults → Stood a.clashes b.clashes → Inits X N b.told p t.notes.head (Err f))
-        → FindsHead a.told (Err f) → SavesThen X LeavesHead a.told b.told → SavesEmpty X N p a.told b.told (Err f) → IsOfMaking f → ((r : Ready) → ◌≡◌ {A = Result Mfs MfsFault} (Err f) (Err (mfs.Ready r)) → b.told ≡ a.told) → CountsUp (tree_fault {A = Mfs} (Err f)) t0 t1 → ShownOpening X NoneIsBad {A = Mfs} (Err f) a b → Makes X N (Init p) (Err why) (around a left reads h w t0 side er) (around b left reads h w t1 side er2)
-    init-refused f why is answer finds leaves saves making alone up cause =
+    pub init-refused : (r : Result Mfs MfsFault) (why : Refusal) → IsRefusedAs RefusesOpening r (Err why)
+        → IfSome a.told (λ t. Stood a.faults b.faults → Stood a.clashes b.clashes → Inits X N b.told p t.notes.head r)
+        → FindsHead a.told r → OnErr r (SavesThen X LeavesHead a.told b.told) → SavesEmpty X N p a.told b.told r → IfErr r IsOfMaking → ((why : Ready) → r ≡ Err (mfs.Ready why) → b.told ≡ a.told) → CountsUp (tree_fault r) t0 t1 → ShownOpening X NoneIsBad r a b → Makes X N (Init p) (Err why) (around a left reads h w t0 side er) (around b left reads h w t1 side er2)
+    init-refused (Ok mfs) why is answer finds leaves saves making alone up cause = absurd cc
+    init-refused (Err f) why is answer finds leaves saves making alone up cause =
         let shown = Shown-opening Mfs X NoneIsBad NoneIsBad (λ role bytes bad. bad) f why a b is cause in
         let kinds = init-kinds f why is making in
         let head = leaves-head leaves.between b.told leaves.last ∙ saves-head X a.told leaves.between leaves.saves in
@@ -193,10 +195,11 @@ module _ (X : List ℕ → List ℕ) (N : List ℕ → ℕ) where
         }
 
     -- the store is made ready
-    pub is-ready : (mfs : Mfs) (text : List ℕ) → text ≡ []
-        → IfSome a.told (λ t. Stood a.faults b.faults → Stood a.clashes b.clashes → Inits X N b.told p t.notes.head (Ok mfs)) → FindsHead a.told (Ok mfs)
-        → SavesThen X (Commits mfs.profile mfs.root.cid) a.told b.told → SavesEmpty X N p a.told b.told (Ok mfs) → StaysCalm a b → Makes X N (Init p) (Ok text) (around a left reads h w t0 side er) (around b left reads h w t1 side er2)
-    is-ready mfs text nothing answer finds writes saves calm = record {
+    pub is-ready : (r : Result Mfs MfsFault) (made : Mfs) (text : List ℕ) → IsRefusedAs RefusesOpening r (Ok made) → text ≡ []
+        → IfSome a.told (λ t. Stood a.faults b.faults → Stood a.clashes b.clashes → Inits X N b.told p t.notes.head r) → FindsHead a.told r
+        → IfOk r (λ mfs. SavesThen X (Commits mfs.profile mfs.root.cid) a.told b.told) → SavesEmpty X N p a.told b.told r → ShownOpening X NoneIsBad r a b → Makes X N (Init p) (Ok text) (around a left reads h w t0 side er) (around b left reads h w t1 side er2)
+    is-ready (Err f) made text is nothing answer finds writes saves calm = absurd is
+    is-ready (Ok mfs) made text is nothing answer finds writes saves calm = record {
       answers = λ world stands input calm2. let s = world.standing in let bytes = world.input in inits-ok X N (Stood a.faults b.faults) (Stood a.clashes b.clashes) s p a.told mfs text b.told calm2.faults calm2.clashes nothing stands answer;
       lost = λ q es heights held bytes named input calm2. absurd (not-inited X N (Stood a.faults b.faults) (Stood a.clashes b.clashes) a.told b.told p q es mfs calm2.faults calm2.clashes named.names answer);
       kinds = tt;

@@ -50,7 +50,6 @@ use Rattle.uf_command.specs.declared.types.Ask.TheVariants.{Ls, Stat, Edit as Ed
 use Rattle.uf_command.specs.declared.types.Command.{Command}
 use Rattle.uf_command.specs.declared.types.Command.TheVariants.{Init, Add, WriteInput, At, Read, Cat, Get, Export, Import, Same, Adopt, Gen, Pin, Prove}
 use Rattle.uf_command.specs.declared.types.Adding.TheVariants as adding
-use Rattle.uf_command.specs.declared.types.DagRule.{DagRule}
 use Rattle.uf_command.specs.declared.types.DagRule.TheVariants as rule
 use Rattle.uf_command.specs.declared.types.PinAsk.{PinAsk}
 use Rattle.uf_command.specs.declared.types.PinAsk.TheVariants as pins
@@ -439,23 +438,22 @@ module _ (X : List ℕ → List ℕ) (N : List ℕ → ℕ) (ask : PinAsk) (a b 
     other : refusal_kind (pin_refusal f) ≢ OfWrite
     kinds : may_close (pin_kinds ask) (refusal_kind (pin_refusal f)) ≡ true
     ready : IsReadyBy a.told (Pin ask) (pin_refusal f)
-    rule : status_of (pin_refusal f) ≡ status.Rule → (r : DagRule) × (pin_refusal f ≡ refusal.Dag r)
     reads : Counts (is_read {A = Unit {0}} (Err (pin_refusal f))) i i
     shown : Shown X NoneIsBad (fault_behind (pin_refusal f)) a b
     blameless : IsBlaming (fault_behind (pin_refusal f)) → ⊥
 
   fault-of : (A : Type 0) (f : PinFault) → may_close (pin_kinds ask) (refusal_kind (pin_refusal f)) ≡ true → Shown X NoneIsBad (pin_fault {A = A} (Err f)) a b → IsFault f
-  fault-of A pin.BadPins kind s = record { other = λ e. cc; kinds = kind; ready = tt; rule = λ e. absurd cc; reads = counts-still i; shown = s; blameless = λ x. x }
-  fault-of A pin.TooManyPins kind s = record { other = λ e. cc; kinds = kind; ready = tt; rule = λ e. (rule.TooManyPins, refl); reads = counts-still i; shown = s; blameless = λ x. x }
-  fault-of A (pin.NotPinned c) kind s = record { other = λ e. cc; kinds = kind; ready = tt; rule = λ e. (rule.NotPinned c, refl); reads = counts-still i; shown = s; blameless = λ x. x }
-  fault-of A (pin.NotDagPb c why) kind s = record { other = λ e. cc; kinds = kind; ready = tt; rule = λ e. (rule.NotUnixfs c why, refl); reads = counts-still i; shown = s; blameless = λ x. x }
-  fault-of A pin.TooMany kind s = record { other = λ e. cc; kinds = kind; ready = tt; rule = λ e. (rule.TooMany, refl); reads = counts-still i; shown = s; blameless = λ x. x }
-  fault-of A (pin.Store fault.Failed) kind s = record { other = λ e. cc; kinds = kind; ready = tt; rule = λ e. absurd cc; reads = counts-still i; shown = s; blameless = λ x. x }
-  fault-of A (pin.Store (fault.Damaged c)) kind s = record { other = λ e. cc; kinds = kind; ready = tt; rule = λ e. absurd cc; reads = counts-still i; shown = s; blameless = λ x. x }
-  fault-of A (pin.Store (fault.Missing c)) kind s = record { other = λ e. cc; kinds = kind; ready = tt; rule = λ e. absurd cc; reads = counts-still i; shown = s; blameless = λ x. x }
+  fault-of A pin.BadPins kind s = record { other = λ e. cc; kinds = kind; ready = tt; reads = counts-still i; shown = s; blameless = λ x. x }
+  fault-of A pin.TooManyPins kind s = record { other = λ e. cc; kinds = kind; ready = tt; reads = counts-still i; shown = s; blameless = λ x. x }
+  fault-of A (pin.NotPinned c) kind s = record { other = λ e. cc; kinds = kind; ready = tt; reads = counts-still i; shown = s; blameless = λ x. x }
+  fault-of A (pin.NotDagPb c why) kind s = record { other = λ e. cc; kinds = kind; ready = tt; reads = counts-still i; shown = s; blameless = λ x. x }
+  fault-of A pin.TooMany kind s = record { other = λ e. cc; kinds = kind; ready = tt; reads = counts-still i; shown = s; blameless = λ x. x }
+  fault-of A (pin.Store fault.Failed) kind s = record { other = λ e. cc; kinds = kind; ready = tt; reads = counts-still i; shown = s; blameless = λ x. x }
+  fault-of A (pin.Store (fault.Damaged c)) kind s = record { other = λ e. cc; kinds = kind; ready = tt; reads = counts-still i; shown = s; blameless = λ x. x }
+  fault-of A (pin.Store (fault.Missing c)) kind s = record { other = λ e. cc; kinds = kind; ready = tt; reads = counts-still i; shown = s; blameless = λ x. x }
   fault-of A (pin.Store (fault.BadBlock c role)) kind s = absurd s.bad
-  fault-of A (pin.Store (fault.Clash c x y)) kind s = record { other = λ e. cc; kinds = kind; ready = tt; rule = λ e. absurd cc; reads = counts-still i; shown = s; blameless = λ x. x }
-  fault-of A (pin.Store fault.Memory) kind s = record { other = λ e. cc; kinds = kind; ready = tt; rule = λ e. absurd cc; reads = counts-still i; shown = s; blameless = λ x. x }
+  fault-of A (pin.Store (fault.Clash c x y)) kind s = record { other = λ e. cc; kinds = kind; ready = tt; reads = counts-still i; shown = s; blameless = λ x. x }
+  fault-of A (pin.Store fault.Memory) kind s = record { other = λ e. cc; kinds = kind; ready = tt; reads = counts-still i; shown = s; blameless = λ x. x }
 
   -- it is refused, and nothing is printed
   pub pin-refused : (A : Type 0) (f : PinFault) → IsOfAsk ask f → SaysOf ask (Err (pin_refusal f)) a.told → Shown X NoneIsBad (pin_fault {A = A} (Err f)) a b → WritesAs X (pin_writes ask) false a.told b.told → UnreadBy (Err (pin_refusal f)) a.told
@@ -472,7 +470,7 @@ module _ (X : List ℕ → List ℕ) (N : List ℕ → ℕ) (ask : PinAsk) (a b 
         prints = quiet.prints h h refl;
         kinds = is.kinds;
         ready = is.ready;
-        rule = is.rule;
+        long = tt;
         reads = is.reads;
         host = refl;
         gets = tt;
@@ -533,7 +531,7 @@ module _ (X : List ℕ → List ℕ) (N : List ℕ → ℕ) (ask : PinAsk) (a b 
     prints = (text, text_is, sent);
     kinds = tt;
     ready = tt;
-    rule = tt;
+    long = tt;
     reads = counts-still i;
     host = refl;
     gets = tt;
@@ -619,7 +617,7 @@ module _ (X : List ℕ → List ℕ) (N : List ℕ → ℕ) (a b : Seen) (l : st
         prints = (text, text-is, c.printed);
         kinds = refl;
         ready = tt;
-        rule = λ is. absurd cc;
+        long = tt;
         reads = counts-still i;
         host = refl;
         gets = tt;

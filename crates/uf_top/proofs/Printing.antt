@@ -18,7 +18,7 @@ use Rattle.uf_tree.specs.TreePlan.{blocks}
 use Rattle.uf_tree.specs.declared.profile.Profile.{Profile}
 use Rattle.uf_command.specs.Natures.{command_writes, needs_standing, uses_host, writes_host}
 use Rattle.uf_command.specs.Natures as natures
-use Rattle.uf_command.specs.Kinds.{OfCar, OfDag, OfHost, OfLongInput, OfPath, OfWrite, may_meet, may_close, refusal_kind}
+use Rattle.uf_command.specs.Kinds.{OfWrite, may_meet, may_close, refusal_kind}
 use Rattle.uf_command.specs.Natures.{kinds_of}
 use Rattle.uf_top.specs.Reply.{Outside, Reply, World, host_after, outside_of, reply, world_of}
 use Rattle.uf_command.specs.Statuses.{ended, no_memory, status_of}
@@ -28,14 +28,13 @@ use Rattle.uf_command.specs.declared.types.Command.{Command}
 use Rattle.uf_command.specs.declared.types.Command.TheVariants.{Init, Add, WriteInput, At, Read, Cat, Get, Export, Import, Same, Adopt, Gen, Pin, Prove}
 use Rattle.uf_command.specs.declared.types.Adding.TheVariants as adding
 use Rattle.uf_command.specs.declared.types.PinAsk.TheVariants as pins
-use Rattle.uf_command.specs.declared.types.HostRule.{HostRule}
 use Rattle.uf_command.specs.declared.types.Refusal.{Refusal}
 use Rattle.uf_command.specs.declared.types.Refusal.TheVariants as refusal
 use Rattle.uf_store.specs.declared.store.StoreFault.TheVariants as fault
 use Rattle.uf_top.specs.Answering.{Answers, DoesAnswer, LeavesNext}
 use Rattle.uf_top.specs.Around.{CountsCanRise, HasOutside, HostSide, RisesFor, SinkSide, TakesHost, UsesHost, around}
 use Rattle.uf_top.specs.Causes.{HeadStays, KeepsHead, is_read, is_write}
-use Rattle.uf_top.specs.Endings.{AddsFor, EndsBy, IsTextOf, PrintsAt, PrintsElse, PrintsPart, RuleOf}
+use Rattle.uf_top.specs.Endings.{AddsFor, EndsBy, IsTextOf, PrintsAt, IsLongFor, PrintsElse, PrintsPart}
 use Rattle.uf_command.specs.Telling.{IsCut, Prints}
 use Rattle.uf_top.specs.Getting.{GetsFor}
 use Rattle.uf_top.specs.Hosted.{IsHostedText}
@@ -45,6 +44,7 @@ use Rattle.uf_top.specs.Naming.{FindsOver, NamesIf, NamesAs, StandsIf, StandsNam
 use Rattle.uf_top.specs.Shapes.{WritesAs, is_done}
 use Rattle.uf_top.specs.Working.{Does, Makes, SaysText}
 use Rattle.uf_top.proofs.Fronts.{kept-by}
+use Rattle.uf_top.proofs.Shows.{no-long}
 
 -- ---- which kinds no command that waits has
 
@@ -284,151 +284,24 @@ module _ (X : List ℕ → List ℕ) (N : List ℕ → ℕ) where
   text-of (Gen n seed) alone told now host l m text h rows = absurd cc
   text-of (Pin ask) alone told now host l m text h rows = absurd cc
 
-  rule-in : (command : Command) (told now : Told) (l m : streams.Told) (rule : Rule) → may_meet (kinds_of command) (refusal_kind (refusal.Rule rule)) ≡ true → AddsFor X told now (Ok command) (Err (refusal.Rule rule)) l m
-      → RuleOf command (refusal.Rule rule) told l m
-  rule-in (Init p) told now l m rule h adds = absurd cc
-  rule-in (Add (adding.Input only_hash)) told now l m rule h adds = (ap refusal.Rule adds.0, adds.1)
-  rule-in (WriteInput how path) told now l m rule h adds = inr (rule, refl)
-  rule-in (At ask path) told now l m rule h adds = (rule, refl)
-  rule-in (Read offset count path) told now l m rule h adds = (rule, refl)
-  rule-in (Prove absent path) told now l m rule h adds = (rule, refl)
-  rule-in (Cat path) told now l m rule h adds = absurd cc
-  rule-in (Get path host_path) told now l m rule h adds = absurd cc
-  rule-in (Export cid) told now l m rule h adds = absurd cc
-  rule-in Import told now l m rule h adds = absurd cc
-  rule-in (Same cid) told now l m rule h adds = absurd cc
-  rule-in (Adopt source dest) told now l m rule h adds = inr (rule, refl)
-  rule-in (Gen n seed) told now l m rule h adds = (rule, refl)
-  rule-in (Pin (pins.Add cid)) told now l m rule h adds = absurd cc
-  rule-in (Pin (pins.Remove cid)) told now l m rule h adds = absurd cc
-  rule-in (Pin pins.List) told now l m rule h adds = absurd cc
-  rule-in (Add (adding.InputTo dest)) told now l m rule h adds = (rule, refl)
-  rule-in (Add (adding.HostTo recursive path dest)) told now l m rule h adds = inr (rule, refl)
-  rule-in (Add (adding.Host recursive only_hash path)) told now l m rule h adds = inr (rule, refl)
-
-  long-in : (command : Command) (told now : Told) (l m : streams.Told) → may_meet (kinds_of command) OfLongInput ≡ true → AddsFor X told now (Ok command) (Err refusal.InputTooLong) l m
-      → RuleOf command refusal.InputTooLong told l m
-  long-in (Init p) told now l m h adds = absurd cc
-  long-in (Add (adding.Input only_hash)) told now l m h adds = absurd cc
-  long-in (WriteInput how path) told now l m h adds = inl (refl, adds)
-  long-in (At ask path) told now l m h adds = absurd cc
-  long-in (Read offset count path) told now l m h adds = absurd cc
-  long-in (Prove absent path) told now l m h adds = absurd cc
-  long-in (Cat path) told now l m h adds = absurd cc
-  long-in (Get path host_path) told now l m h adds = absurd cc
-  long-in (Export cid) told now l m h adds = absurd cc
-  long-in Import told now l m h adds = absurd cc
-  long-in (Same cid) told now l m h adds = absurd cc
-  long-in (Adopt source dest) told now l m h adds = absurd cc
-  long-in (Gen n seed) told now l m h adds = absurd cc
-  long-in (Pin (pins.Add cid)) told now l m h adds = absurd cc
-  long-in (Pin (pins.Remove cid)) told now l m h adds = absurd cc
-  long-in (Pin pins.List) told now l m h adds = absurd cc
-  long-in (Add (adding.InputTo dest)) told now l m h adds = absurd cc
-  long-in (Add (adding.HostTo recursive path dest)) told now l m h adds = absurd cc
-  long-in (Add (adding.Host recursive only_hash path)) told now l m h adds = absurd cc
-
-  no-path : (command : Command) → may_meet (kinds_of command) OfPath ≡ true → ⊥
-  no-path (Init p) h = cc
-  no-path (Add (adding.Input only_hash)) h = cc
-  no-path (WriteInput how path) h = cc
-  no-path (At ask path) h = cc
-  no-path (Read offset count path) h = cc
-  no-path (Prove absent path) h = cc
-  no-path (Cat path) h = cc
-  no-path (Get path host_path) h = cc
-  no-path (Export cid) h = cc
-  no-path Import h = cc
-  no-path (Same cid) h = cc
-  no-path (Adopt source dest) h = cc
-  no-path (Gen n seed) h = cc
-  no-path (Pin (pins.Add cid)) h = cc
-  no-path (Pin (pins.Remove cid)) h = cc
-  no-path (Pin pins.List) h = cc
-  no-path (Add (adding.InputTo dest)) h = cc
-  no-path (Add (adding.HostTo recursive path dest)) h = cc
-  no-path (Add (adding.Host recursive only_hash path)) h = cc
-
-  no-dag : (command : Command) → natures.reads_tree_alone command ≡ true → may_meet (kinds_of command) OfDag ≡ true → ⊥
-  no-dag (Init p) needs h = cc
-  no-dag (Add (adding.Input only_hash)) needs h = cc
-  no-dag (Add (adding.InputTo dest)) needs h = cc
-  no-dag (Add (adding.HostTo recursive path dest)) needs h = cc
-  no-dag (Add (adding.Host recursive only_hash path)) needs h = cc
-  no-dag (WriteInput how path) needs h = cc
-  no-dag (At ask path) needs h = cc
-  no-dag (Read offset count path) needs h = cc
-  no-dag (Prove absent path) needs h = cc
-  no-dag (Cat path) needs h = cc
-  no-dag (Get path host_path) needs h = cc
-  no-dag (Export cid) needs h = cc
-  no-dag Import needs h = cc
-  no-dag (Same cid) needs h = cc
-  no-dag (Adopt source dest) needs h = cc
-  no-dag (Gen n seed) needs h = cc
-  no-dag (Pin ask) needs h = cc
-
-  no-car : (command : Command) → natures.reads_tree_alone command ≡ true → may_meet (kinds_of command) OfCar ≡ true → ⊥
-  no-car (Init p) needs h = cc
-  no-car (Add (adding.Input only_hash)) needs h = cc
-  no-car (Add (adding.InputTo dest)) needs h = cc
-  no-car (Add (adding.HostTo recursive path dest)) needs h = cc
-  no-car (Add (adding.Host recursive only_hash path)) needs h = cc
-  no-car (WriteInput how path) needs h = cc
-  no-car (At ask path) needs h = cc
-  no-car (Read offset count path) needs h = cc
-  no-car (Prove absent path) needs h = cc
-  no-car (Cat path) needs h = cc
-  no-car (Get path host_path) needs h = cc
-  no-car (Export cid) needs h = cc
-  no-car Import needs h = cc
-  no-car (Same cid) needs h = cc
-  no-car (Adopt source dest) needs h = cc
-  no-car (Gen n seed) needs h = cc
-  no-car (Pin ask) needs h = cc
-
-  host-in : (command : Command) (told : Told) (l m : streams.Told) (rule : HostRule) → may_meet (kinds_of command) OfHost ≡ true → RuleOf command (refusal.Host rule) told l m
-  host-in (Init p) told l m rule h = absurd cc
-  host-in (Add (adding.Input only_hash)) told l m rule h = absurd cc
-  host-in (Add (adding.InputTo dest)) told l m rule h = absurd cc
-  host-in (Add (adding.HostTo recursive path dest)) told l m rule h = inl (rule, refl)
-  host-in (Add (adding.Host recursive only_hash path)) told l m rule h = inl (rule, refl)
-  host-in (WriteInput how path) told l m rule h = absurd cc
-  host-in (At ask path) told l m rule h = absurd cc
-  host-in (Read offset count path) told l m rule h = absurd cc
-  host-in (Prove absent path) told l m rule h = absurd cc
-  host-in (Cat path) told l m rule h = absurd cc
-  host-in (Get path host_path) told l m rule h = inl (rule, refl)
-  host-in (Export cid) told l m rule h = absurd cc
-  host-in Import told l m rule h = absurd cc
-  host-in (Same cid) told l m rule h = absurd cc
-  host-in (Adopt source dest) told l m rule h = absurd cc
-  host-in (Gen n seed) told l m rule h = absurd cc
-  host-in (Pin (pins.Add cid)) told l m rule h = absurd cc
-  host-in (Pin (pins.Remove cid)) told l m rule h = absurd cc
-  host-in (Pin pins.List) told l m rule h = absurd cc
-
-  rules : (command : Command) → natures.reads_tree_alone command ≡ true → (told now : Told) (l m : streams.Told) (why : Refusal) → may_meet (kinds_of command) (refusal_kind why) ≡ true → AddsFor X told now (Ok command) (Err why) l m
-      → status_of why ≡ status.Rule → RuleOf command why told l m
-  rules command needs told now l m (refusal.Rule rule) h adds is = rule-in command told now l m rule h adds
-  rules command needs told now l m (refusal.Dag rule) h adds is = absurd (no-dag command needs h)
-  rules command needs told now l m (refusal.Car number place) h adds is = absurd (no-car command needs h)
-  rules command needs told now l m (refusal.CarLacks cid) h adds is = absurd cc
-  rules command needs told now l m (refusal.OwnClash cid first second) h adds is = absurd cc
-  rules command needs told now l m (refusal.Host rule) h adds is = host-in command told l m rule h
-  rules command needs told now l m (refusal.BadPath why) h adds is = absurd (no-path command h)
-  rules command needs told now l m refusal.InputTooLong h adds is = long-in command told now l m h adds
-  rules command needs told now l m refusal.BadPins h adds is = absurd cc
-  rules command needs told now l m refusal.Usage h adds is = absurd cc
-  rules command needs told now l m (refusal.Ready why) h adds is = absurd cc
-  rules command needs told now l m refusal.Read h adds is = absurd cc
-  rules command needs told now l m refusal.Write h adds is = absurd cc
-  rules command needs told now l m (refusal.Store fault.Failed) h adds is = absurd cc
-  rules command needs told now l m (refusal.Store (fault.Damaged cid)) h adds is = absurd cc
-  rules command needs told now l m (refusal.Store (fault.Missing cid)) h adds is = absurd cc
-  rules command needs told now l m (refusal.Store (fault.BadBlock cid role)) h adds is = absurd cc
-  rules command needs told now l m (refusal.Store (fault.Clash cid first second)) h adds is = absurd cc
-  rules command needs told now l m (refusal.Store fault.Memory) h adds is = absurd cc
+  long-of : (command : Command) (told now : Told) (l m : streams.Told) (why : Refusal) → AddsFor X told now (Ok command) (Err why) l m → IsLongFor command why told l m
+  long-of (Add (adding.Input only_hash)) told now l m why adds = λ rule e. subst (λ w. AddsFor X told now (Ok (Add (adding.Input only_hash))) (Err w) l m) e adds
+  long-of (WriteInput how path) told now l m why adds = λ e. subst (λ w. AddsFor X told now (Ok (WriteInput how path)) (Err w) l m) e adds
+  long-of (Init p) told now l m why adds = tt
+  long-of (At ask path) told now l m why adds = tt
+  long-of (Read offset count path) told now l m why adds = tt
+  long-of (Prove absent path) told now l m why adds = tt
+  long-of (Cat path) told now l m why adds = tt
+  long-of (Get path host_path) told now l m why adds = tt
+  long-of (Export cid) told now l m why adds = tt
+  long-of Import told now l m why adds = tt
+  long-of (Same cid) told now l m why adds = tt
+  long-of (Adopt source dest) told now l m why adds = tt
+  long-of (Gen n seed) told now l m why adds = tt
+  long-of (Pin ask) told now l m why adds = tt
+  long-of (Add (adding.InputTo dest)) told now l m why adds = tt
+  long-of (Add (adding.HostTo recursive path dest)) told now l m why adds = tt
+  long-of (Add (adding.Host recursive only_hash path)) told now l m why adds = tt
 
   module _ (command : Command) (alone : natures.reads_tree_alone command ≡ true) (a b : Seen) (l m : streams.Told) (i j t0 t1 : ℕ) (h : streams.Told) (w : ℕ) (side side2 : HostSide) (er er2 : SinkSide) where
     needs : needs_standing command ≡ true
@@ -465,7 +338,7 @@ module _ (X : List ℕ → List ℕ) (N : List ℕ → ℕ) where
           prints = quiet.prints h h (else-same (natures.streams command) h);
           kinds = may-end command why mk.kinds;
           ready = mk.ready;
-          rule = λ is. rules command alone a.told b.told l m why mk.kinds mk.adds is;
+          long = long-of command a.told b.told l m why mk.adds;
           reads = mk.reads;
           host = takes (is_read {A = Unit {0}} (Err why)) (is_write {A = Unit {0}} (Err why)) mk.host;
           gets = alone-gets command alone (ended {A = Unit {0}} (Err why)) a.told side.told side2.told;
@@ -543,7 +416,7 @@ module _ (X : List ℕ → List ℕ) (N : List ℕ → ℕ) where
           prints = (text, text-of command alone a.told b.told side.told l m text mk.adds mk.rows, is);
           kinds = tt;
           ready = tt;
-          rule = tt;
+          long = tt;
           reads = mk.reads;
           host = takes false false mk.host;
           gets = alone-gets command alone status.Ok a.told side.told side2.told;
@@ -596,7 +469,7 @@ module _ (X : List ℕ → List ℕ) (N : List ℕ → ℕ) where
               prints = (text, text-of command alone a.told b.told side.told l m text mk.adds mk.rows, c.printed);
               kinds = refl;
               ready = tt;
-              rule = λ is. absurd cc;
+              long = no-long command refusal.Write a.told l m (λ rule e. cc) (λ e. cc);
               reads = mk.reads;
               host = takes false true mk.host;
               gets = alone-gets command alone status.WriteFault a.told side.told side2.told;

@@ -1,6 +1,5 @@
 -- What `add --to-files` saves: blocks of what it adds, and of the tree that it gives.
-use Rattle.std.proofs.Common.{◌≡◌, ℕ, List, [], ◌∷◌, ◌++◌, Bool, refl, sym, ap, subst, ◌∙◌, append-nil, inl, inr, Option, Some, None, Result, Ok, Err}
-use Rattle.std.specs.Prelude.{IfSome}
+use Rattle.std.proofs.Common.{◌≡◌, ℕ, List, [], ◌∷◌, ◌++◌, Bool, refl, sym, ap, subst, ◌∙◌, append-nil, inr, Option, Some, None, Result, Ok}
 use Rattle.std.specs.List.{flat_map}
 use Rattle.uf_cid.specs.Blocks.{Held}
 use Rattle.uf_edge.specs.Host.{HostTold, HostTree}
@@ -9,7 +8,6 @@ use Rattle.uf_host.specs.Adding.{HasHeldPlan}
 use Rattle.uf_host.specs.HostTree.{tree_on_host}
 use Rattle.uf_host.specs.Paths.{trimmed}
 use Rattle.uf_host.specs.Stopping.{levels_of}
-use Rattle.uf_host.specs.declared.fault.HostFault.{HostFault}
 use Rattle.uf_host.proofs.Stops.{reads-none}
 use Rattle.uf_mfs.specs.Saving.{SavesForPut, next_blocks}
 use Rattle.uf_mfs.specs.Standing.{IsMfs, NamesOver, StandsOver}
@@ -25,7 +23,6 @@ use Rattle.uf_store.specs.Faults.{NoneIsBad, StaysCalm}
 use Rattle.uf_store.specs.Keeping.{KeepsGood}
 use Rattle.uf_store.specs.Seen.{Seen}
 use Rattle.uf_store.specs.Writing.{IsAny, SavesOnly, WritesOnly}
-use Rattle.uf_store.specs.declared.store.StoreFault.{StoreFault}
 use Rattle.uf_store.proofs.Writing.{agrees-between, saves-write}
 use Rattle.uf_tree.specs.FilePlan.{file_plan}
 use Rattle.uf_tree.specs.Metas.{none}
@@ -41,11 +38,11 @@ use Rattle.uf_mfs.specs.declared.mfs.Mfs.{Mfs}
 use Rattle.uf_plain.specs.Rules.{unless}
 use Rattle.uf_store.specs.Among.{SavesAmong}
 use Rattle.uf_tree.specs.declared.nodes.Entry.{Entry}
-use Rattle.uf_top.specs.Grafts.{BuildsPlanned, SavesPut}
+use Rattle.uf_top.specs.Grafts.{BuildsPlanned, SavesAtSpot}
 use Rattle.uf_top.specs.Naming.{StaysNamed}
 use Rattle.uf_top.proofs.Settled.{placed-saves}
 use Rattle.uf_top.specs.Placing.{FindsSpot, IsFoundAt, IsGiven, PutsGiven, SaysHost, SaysInput}
-use Rattle.uf_top.specs.Reply.{added_spot, by_rule, host_tree, input_tree, with_plan}
+use Rattle.uf_top.specs.Reply.{added_spot, by_rule, with_plan}
 use Rattle.uf_top.specs.Saving.{KeepsHosted, KeepsPut, SavesNoOther, put_blocks}
 use Rattle.uf_top.specs.declared.given.Given.{Given}
 use Rattle.uf_top.specs.declared.given.OpenSpot.{OpenSpot}
@@ -213,7 +210,7 @@ module _ (X : List ℕ → List ℕ) (N : List ℕ → ℕ) where
 
   -- it is built, and put at its spot
   pub built-saved : (tree new : Mfs) (spot : Spot) (t : Tree) (e : Entry) (a b d : Seen) → IsMfs tree → OnlySaves X NoneIsBad None a b → SavesAmong X (blocks X N tree.profile t) a.told b.told → BuildsPlanned X N tree.profile b.told t (Ok e)
-      → KeepsGood X b.told d.told → SavesOnly X b.told d.told → SavesForPut X N b d tree e spot → SavesPut X N tree spot t a d
+      → KeepsGood X b.told d.told → SavesOnly X b.told d.told → SavesForPut X N b d tree e spot → SavesAtSpot X N tree spot t a d
   built-saved tree new spot t e a b d mfs first among builds good saves puts = λ p es over last can.
       let q = tree.profile in
       let v = ok-value (λ planned. IsBuilt X N q b.told planned e) (by_rule (with_plan X N q t)) builds in

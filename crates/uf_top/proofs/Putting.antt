@@ -48,6 +48,7 @@ use Rattle.uf_command.specs.declared.types.Refusal.{Refusal}
 use Rattle.uf_command.specs.declared.types.Refusal.TheVariants as refusal
 use Rattle.uf_top.specs.Causes.{RefusesInTree}
 use Rattle.uf_top.specs.Grafts.{BuildsPlanned, FollowsOr, IsFailingRefusal, IsLostBy, IsOkFor, PutsTree, put_tree}
+use Rattle.uf_top.proofs.Refusing.{IsRefusedAs, of-both}
 use Rattle.uf_top.proofs.Shows.{not-rose, saving-wants}
 
 -- ---- steps in a row
@@ -86,6 +87,11 @@ gives-stop told l P (Ok a) mfs.Sink given is h = absurd is
 gives-stop told l P (Err rule) mfs.Sink given is h = absurd is
 gives-stop told l P (Ok a) (mfs.Store f) given is h = inl (subst (IsLostBy told l) (sym is) h)
 gives-stop told l P (Err rule) (mfs.Store f) given is h = inl (subst (IsLostBy told l) (sym is) h)
+
+pub gives-refused : {A B : Type 0} (told : Told) (l : List Held) (P : A → B → Type 0) (w : Result A Rule) (r : Result B MfsFault) (given : Result B Refusal) → IsRefusedAs RefusesInTree r given
+    → GivesOr (IsLossOf told l) P w r → FollowsOr (IsLostBy told l) P (by_rule w) given
+gives-refused told l P w r given is =
+    of-both r given (λ r given. GivesOr (IsLossOf told l) P w r → FollowsOr (IsLostBy told l) P (by_rule w) given) is (gives-ok (IsLossOf told l) P w) (gives-stop told l P w)
 
 -- of more blocks
 pub lost-behind : (told : Told) (k l : List Held) (why : Refusal) → IsLostBy told l why → IsLostBy told (k ++ l) why
@@ -232,23 +238,13 @@ module _ (X : List ℕ → List ℕ) (N : List ℕ → ℕ) (was is : Mfs) where
         (λ f lost. loss-after a.told b.told old mid f both lost)
         (λ fs done h. record { profile_is = h.profile_is; root = record { plan = h.root.plan; after = after-then a.told b.told c.told old mid _ both h.root.after } }) given))
 
-    -- it is put
-    pub is-put : (spot : Spot) (t : Tree) (e : Entry) → BuildsPlanned X N was.profile b.told t (Ok e)
-        → ((u : Tree) → IsPlanOf X N was.profile e u → MovesTree X N b c (blocks X N was.profile u) was is (spot_names spot) (λ p es. allowed X N p (put_at_spot spot u es)) (Ok tt)) → PutsTree X N was is (needs_at_spot X N spot) (put_tree X N spot t) (Ok tt) a c
-    is-put spot t e builds moves = puts-of (needs_at_spot X N spot) (put_tree X N spot t) (Ok tt) a c (λ es over.
+    -- it is put, or that is refused
+    pub put-given : (spot : Spot) (t : Tree) (e : Entry) (r : Result (Unit {0}) MfsFault) (given : Result (Unit {0}) Refusal) → IsRefusedAs RefusesInTree r given → BuildsPlanned X N was.profile b.told t (Ok e)
+        → ((u : Tree) → IsPlanOf X N was.profile e u → MovesTree X N b c (blocks X N was.profile u) was is (spot_names spot) (λ p es. allowed X N p (put_at_spot spot u es)) r) → PutMisses X N was.profile b c was.root (spot_names spot) (tree_fault r)
+        → PutsTree X N was is (needs_at_spot X N spot) (put_tree X N spot t) given a c
+    put-given spot t e r given refused builds moves misses = puts-of (needs_at_spot X N spot) (put_tree X N spot t) given a c (λ es over.
         let v = ok-value (λ planned. IsBuilt X N was.profile b.told planned e) (by_rule (with_plan X N was.profile t)) builds in
         follows-then {C = Unit {0}} (IsLostBy a.told (needs_at_spot X N spot was.profile es)) (λ fs done. StandsAfter X N a.told c.told (blocks X N was.profile (Dir es)) is was.profile fs) (by_rule (with_plan X N was.profile t)) v.0
-        (λ planned. by_rule (allowed_move X N was.profile (placed_at spot planned es))) (Ok tt) v.1
-        (gives-ok {B = Unit {0}} (IsLossOf a.told (needs_at_spot X N spot was.profile es)) (λ fs done. StandsAfter X N a.told c.told (blocks X N was.profile (Dir es)) is was.profile fs) (allowed_move X N was.profile (placed_at spot v.0 es)) tt
-        (put_gives spot v.0 e es (Ok tt) v.2 (moves v.0 (ok e v.0 v.2)) (λ gs o. tt) over)))
-
-    -- or that is refused
-    pub not-put : (spot : Spot) (t : Tree) (e : Entry) (f : MfsFault) (why : Refusal) → RefusesInTree f why → BuildsPlanned X N was.profile b.told t (Ok e)
-        → ((u : Tree) → IsPlanOf X N was.profile e u → MovesTree X N b c (blocks X N was.profile u) was is (spot_names spot) (λ p es. allowed X N p (put_at_spot spot u es)) (Err f)) → PutMisses X N was.profile b c was.root (spot_names spot) (tree_fault {A = Unit {0}} (Err f))
-        → PutsTree X N was is (needs_at_spot X N spot) (put_tree X N spot t) (Err why) a c
-    not-put spot t e f why refuses builds moves misses = puts-of (needs_at_spot X N spot) (put_tree X N spot t) (Err why) a c (λ es over.
-        let v = ok-value (λ planned. IsBuilt X N was.profile b.told planned e) (by_rule (with_plan X N was.profile t)) builds in
-        follows-then {C = Unit {0}} (IsLostBy a.told (needs_at_spot X N spot was.profile es)) (λ fs done. StandsAfter X N a.told c.told (blocks X N was.profile (Dir es)) is was.profile fs) (by_rule (with_plan X N was.profile t)) v.0
-        (λ planned. by_rule (allowed_move X N was.profile (placed_at spot planned es))) (Err why) v.1
-        (gives-stop {B = Unit {0}} a.told (needs_at_spot X N spot was.profile es) (λ fs done. StandsAfter X N a.told c.told (blocks X N was.profile (Dir es)) is was.profile fs) (allowed_move X N was.profile (placed_at spot v.0 es)) f why refuses
-        (put_gives spot v.0 e es (Err f) v.2 (moves v.0 (ok e v.0 v.2)) misses over)))
+        (λ planned. by_rule (allowed_move X N was.profile (placed_at spot planned es))) given v.1
+        (gives-refused {B = Unit {0}} a.told (needs_at_spot X N spot was.profile es) (λ fs done. StandsAfter X N a.told c.told (blocks X N was.profile (Dir es)) is was.profile fs) (allowed_move X N was.profile (placed_at spot v.0 es)) r given refused
+        (put_gives spot v.0 e es r v.2 (moves v.0 (ok e v.0 v.2)) misses over)))

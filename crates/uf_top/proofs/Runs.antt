@@ -1,20 +1,37 @@
 -- From how a command was done to what it did.
-use Rattle.std.proofs.Common.{Result, Ok, Err}
+use Rattle.std.proofs.Common.{◌≡◌, ◌∙◌, sym, subst, inl, inr, Result, Ok, Err}
 use Rattle.std.specs.Prelude.{ℕ, List, IfErr}
 use Rattle.uf_command.specs.Commands.{IsOfWords, of_command}
 use Rattle.uf_command.specs.Kinds.{IsOf}
 use Rattle.uf_command.specs.Natures.{IsOfCommand, NoStore, may_end, own_store}
 use Rattle.uf_command.specs.declared.status.Status.{Status}
+use Rattle.uf_command.specs.declared.status.Status.TheVariants as status
 use Rattle.uf_command.specs.declared.types.Command.{Command}
 use Rattle.uf_command.specs.declared.types.Refusal.{Refusal}
+use Rattle.uf_command.specs.declared.types.Refusal.TheVariants as refusal
+use Rattle.uf_cid.specs.declared.cid.Cid.{Cid}
+use Rattle.uf_store.specs.declared.store.Role.{Role}
+use Rattle.uf_store.specs.declared.store.StoreFault.TheVariants.{BadBlock}
+use Rattle.uf_top.specs.Endings.{IsRefusedBy}
+use Rattle.uf_top.proofs.Shows.{blamed-block}
 use Rattle.uf_top.specs.Around.{Around, Said}
 use Rattle.uf_top.specs.Cars.{ByOwnStore}
+use Rattle.uf_top.specs.Caused.{BlamesWhereRead}
 use Rattle.uf_command.specs.Telling.{TellsEnd}
 use Rattle.uf_top.specs.Running.{Runs, RunsCommand}
 use Rattle.uf_top.specs.Working.{Does, Serves}
 use Rattle.uf_top.proofs.Counted.{counted-of}
 use Rattle.uf_top.proofs.Losses.{lost-told, touches-told}
-use Rattle.uf_top.proofs.Telling.{blamed-told, clashes-told, faults-told, gets-told, good-told, head-told, host-told, idle-told, is-refused, kept-told, kinds-told, pins-told, prefix-told, prints-told, read-told, replies-told, says-plain, shows, synced-told, told-same, unplaced-told, unprinted-over-told, unprinted-told, unready-told, whole-told, write-told, writes-told}
+use Rattle.uf_top.proofs.Telling.{blamed-told, blames-told, clashes-told, faults-told, gets-told, good-told, head-told, host-told, idle-told, is-refused, kept-told, kinds-told, pins-told, prefix-told, prints-told, read-told, replies-told, says-plain, shows, synced-told, told-same, unplaced-told, unprinted-over-told, unprinted-told, unready-told, whole-told, write-told, writes-told}
+
+-- no words that are refused call a block bad
+no-words-blame : (cid : Cid) (role : Role) → IsOfWords (Err (refusal.Store (BadBlock cid role))) → ⊥
+no-words-blame cid role of = cc
+
+words-blame-none : (why : Refusal) (given : Status) (a b : Around) → IsOfWords (Err why) → IsRefusedBy why given a b → given ≡ status.BadBlock → ⊥
+words-blame-none why given a b of (inl m) is = (let k : status.Memory ≡ status.BadBlock = sym m.0 ∙ is in cc)
+words-blame-none why given a b of (inr r) is =
+    let k = blamed-block why (sym r.0 ∙ is) in no-words-blame k.0 k.1 (subst (λ w. IsOfWords (Err w)) k.2 of)
 
 module _ (given : Status) (X : List ℕ → List ℕ) (N : List ℕ → ℕ) (a b : Around) where
   command-told : (command : Command) (done : Result (Unit {0}) Refusal) → Does X N command done a b → IfErr done (ByOwnStore X (own_store command) a.left a.store b.store) → IsOf (may_end command) done → TellsEnd (Said a.errors b.errors) done given
@@ -61,6 +78,11 @@ module _ (given : Status) (X : List ℕ → List ℕ) (N : List ℕ → ℕ) (a 
       bad = λ is. blamed-told a b given X N command done s t is;
     };
   }
+
+  -- words that are refused blame no block
+  pub blames-of : (asked : Result Command Refusal) (done : Result (Unit {0}) Refusal) → Serves X N asked done a b → IsOfWords asked → TellsEnd (Said a.errors b.errors) done given → BlamesWhereRead X N a b given
+  blames-of (Ok command) done s of-words t = blames-told a b given X N command done s t
+  blames-of (Err why) done s of-words t = λ is. absurd (words-blame-none why given a b of-words (is-refused a b given done why t s.refused) is)
 
   pub runs-told : (asked : Result Command Refusal) (done : Result (Unit {0}) Refusal) → IsOfWords asked → Serves X N asked done a b
       → IfErr done (ByOwnStore X (of_command own_store NoStore asked) a.left a.store b.store) → IsOfCommand asked done → TellsEnd (Said a.errors b.errors) done given → Runs X N asked given a b

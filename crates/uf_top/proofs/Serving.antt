@@ -38,7 +38,7 @@ use Rattle.uf_top.proofs.Fronts.{nothing-kept}
 use Rattle.uf_top.proofs.Gotten.{same-below}
 use Rattle.uf_top.proofs.Losing.{names-same}
 use Rattle.uf_top.proofs.Printing.{else-same, nothing-printed, rises-still, keeps-head}
-use Rattle.uf_top.proofs.Shows.{counts-still, no-touch}
+use Rattle.uf_top.proofs.Shows.{counts-still, no-long, no-touch}
 
 -- want of memory may come of each command, which has written nothing then
 memory-kind : (command : Command) → may_close (kinds_of command) (refusal_kind no_memory) ≡ true
@@ -164,7 +164,7 @@ module _ (X : List ℕ → List ℕ) (N : List ℕ → ℕ) (a : Around) (er2 : 
     prints = else-same (flows command) a.held;
     kinds = memory-kind command;
     ready = tt;
-    rule = λ is. absurd cc;
+    long = no-long command no_memory a.store.told a.left a.left (λ rule e. cc) (λ e. cc);
     reads = still-reads command;
     host = still-host command;
     gets = nothing-gotten command a.store.told a.host.told;

@@ -1,10 +1,13 @@
 -- What the answers of calls in a row show.
-use Rattle.std.proofs.Common.{◌≡◌, ℕ, ◌+◌, ◌≤◌, List, false, true, arith, refl, sym, subst, inl, inr, Option, Some, None, Result, Ok, Err}
-use Rattle.std.specs.Prelude.{IfOk, IfSome, ⊤}
+use Rattle.std.proofs.Common.{◌≡◌, ◌≢◌, ◌∙◌, ℕ, ◌+◌, ◌≤◌, List, length, false, true, ap, arith, refl, sym, subst, inl, inr, Option, Some, None, Result, Ok, Err}
+use Rattle.std.specs.Prelude.{IfErr, IfOk, IfSome, ⊤}
 use Rattle.uf_edge.specs.Counts.{Counts, Rose, Stood}
+use Rattle.uf_edge.specs.Streams as streams
 use Rattle.uf_mfs.specs.Answers.{ShownInTree, ShownOpening}
 use Rattle.uf_cid.specs.declared.cid.Cid.{Cid}
-use Rattle.uf_mfs.specs.Bad.{IsBadInHead, IsBadInTree}
+use Rattle.uf_fileedit.specs.Bad.{IsBadPlaced, place_at, way_size}
+use Rattle.uf_fileread.specs.Bad.{IsBadAt, IsBadRoot, declared_at}
+use Rattle.uf_mfs.specs.Bad.{IsBad, IsBadInHead, IsBadInTree, IsHeadTold}
 use Rattle.uf_mfs.specs.Standing.{ReadsHead}
 use Rattle.uf_mfs.specs.declared.mfs.Mfs.{Mfs}
 use Rattle.uf_tree.specs.declared.profile.Head.{Head}
@@ -18,18 +21,26 @@ use Rattle.uf_store.specs.Contents.{Told}
 use Rattle.uf_store.specs.Faults.{NoneIsBad, Shown, Shows, StaysCalm}
 use Rattle.uf_store.specs.Seen.{Seen}
 use Rattle.uf_store.specs.declared.store.Role.{Role}
+use Rattle.uf_store.specs.declared.store.Role.TheVariants.{Directory, Shard, FileNode, Leaf}
 use Rattle.uf_store.specs.declared.store.StoreFault.{StoreFault}
 use Rattle.uf_store.specs.declared.store.StoreFault.TheVariants.{Failed, Damaged, Missing, BadBlock, Clash, Memory}
 use Rattle.uf_store.proofs.Calls.{shown-by}
 use Rattle.uf_store.proofs.Causes.{calm-memory}
+use Rattle.uf_tree.specs.HeadReading.{head_reads}
+use Rattle.uf_tree.specs.Roles.{FilePlace, Root}
 use Rattle.uf_tree.specs.declared.profile.Profile.{Profile}
 use Rattle.uf_command.specs.Kinds.{add_kinds, IsOf, fault_behind, may_meet, refusal_fault}
 use Rattle.uf_command.specs.Statuses.{status_of}
 use Rattle.uf_command.specs.declared.status.Status.TheVariants as status
+use Rattle.uf_command.specs.declared.types.Adding.TheVariants as adding
+use Rattle.uf_command.specs.declared.types.Command.{Command}
+use Rattle.uf_command.specs.declared.types.Command.TheVariants.{Init, Add, WriteInput, At, Read, Cat, Get, Export, Import, Same, Adopt, Gen, Pin, Prove}
 use Rattle.uf_command.specs.declared.types.Refusal.{Refusal}
 use Rattle.uf_command.specs.declared.types.Refusal.TheVariants as refusal
-use Rattle.uf_top.specs.Causes.{IsBadIn, IsMade, IsOpeningFault, OnlyWants, RefusesInTree, RefusesOpening}
+use Rattle.uf_top.specs.Causes.{HeadSays, IsBadAs, IsBadBlock, IsBadIn, IsMade, IsProfileOf, IsOpeningFault, OnlyWants, RefusesInTree, RefusesOpening}
 use Rattle.uf_edits.specs.Edits.{IsBadAsked, IsTreeFault}
+use Rattle.uf_plain.specs.declared.rule.Rule.{Rule}
+use Rattle.uf_top.specs.Endings.{IsLongFor}
 use Rattle.uf_top.specs.Intake.{ShownIn}
 
 -- a count that stands
@@ -82,6 +93,54 @@ bad-of-none X N told now role bytes h = inl h
 
 pub bad-of-head : (X : List ℕ → List ℕ) (N : List ℕ → ℕ) (told now : Told) (tree : Mfs) → ReadsHead told (Ok tree) → (role : Role) (bytes : List ℕ) → IsBadAsked X N tree.profile now tree.root.cid role bytes → IsBadIn X N told now role bytes
 bad-of-head X N told now tree is role bytes h = inr (inr (head_of tree, is, h))
+
+-- ---- what isn't canonical where it lies isn't canonical in its role
+
+head-says : (o : Option (List ℕ)) (head : Head) → (text : List ℕ) × (o ≡ Some text) × (head_reads text ≡ Ok head) → HeadSays o head.profile
+head-says None head is = absurd (let k = is.1 in cc)
+head-says (Some text) head is = (head.root, let same : text ≡ is.0 = (let e = is.1 in cc) in ap head_reads same ∙ is.2)
+
+known : (told : Told) (head : Head) → IsHeadTold told head → IsProfileOf told head.profile
+known None head is = tt
+known (Some t) head is = head-says t.notes.head head is
+
+module _ (N : List ℕ → ℕ) (p : Option Profile) where
+  by-tree : (role : Role) (bytes : List ℕ) → IsBad N p role bytes → IsBadAs N p role bytes
+  by-tree Directory bytes h = h
+  by-tree (Shard level) bytes h = h
+  by-tree FileNode bytes h = tt
+  by-tree Leaf bytes h = tt
+
+  by-place : (above : ℕ) (declared : Option ℕ) (role : Role) (bytes : List ℕ) → IsBadAt above declared role bytes → IsBadAs N p role bytes
+  by-place above declared Directory bytes h = absurd h
+  by-place above declared (Shard level) bytes h = absurd h
+  by-place above declared FileNode bytes h = tt
+  by-place above declared Leaf bytes h = tt
+
+  by-edit : (q : Profile) (place : FilePlace) (declared : Option ℕ) (role : Role) (bytes : List ℕ) → IsBadPlaced q place declared role bytes → IsBadAs N p role bytes
+  by-edit q place declared Directory bytes h = absurd h
+  by-edit q place declared (Shard level) bytes h = absurd h
+  by-edit q place declared FileNode bytes h = tt
+  by-edit q place declared Leaf bytes h = tt
+
+  by-root : (role : Role) (bytes : List ℕ) → IsBadRoot role bytes → IsBadAs N p role bytes
+  by-root Directory bytes h = absurd h
+  by-root (Shard level) bytes h = absurd h
+  by-root FileNode bytes h = tt
+  by-root Leaf bytes h = tt
+
+by-asked : (X : List ℕ → List ℕ) (N : List ℕ → ℕ) (p : Profile) (now : Told) (root : Cid) (role : Role) (bytes : List ℕ) → IsBadAsked X N p now root role bytes → IsBadAs N (Some p) role bytes
+by-asked X N p now root role bytes (inl (inl h)) = by-tree N (Some p) role bytes h.bad
+by-asked X N p now root role bytes (inl (inr (file, inl h))) = by-edit N (Some p) p Root None role bytes h.bad
+by-asked X N p now root role bytes (inl (inr (file, inr h))) = by-edit N (Some p) p (place_at h.whole h.way) (Some (way_size h.whole h.way)) role bytes h.bad
+by-asked X N p now root role bytes (inr h) = by-root N (Some p) role bytes h
+
+pub bad-anywhere : (X : List ℕ → List ℕ) (N : List ℕ → ℕ) (told now : Told) (role : Role) (bytes : List ℕ) → IsBadIn X N told now role bytes → IsBadBlock N told role bytes
+bad-anywhere X N told now role bytes (inl h) = record { profile = None; is_known = tt; bad = by-tree N None role bytes h.bad.bad }
+bad-anywhere X N told now role bytes (inr (inl (file, h))) =
+    record { profile = None; is_known = tt; bad = by-place N None (0 + length h.way) (declared_at None h.way) role bytes h.bad }
+bad-anywhere X N told now role bytes (inr (inr (head, is, h))) =
+    record { profile = Some head.profile; is_known = known told head is; bad = by-asked X N head.profile now head.root role bytes h }
 
 -- with no count risen, a fault that saves alone can have is want of memory
 pub saving-wants : (hash : List ℕ → List ℕ) (P : Role → List ℕ → Type 0) (f : StoreFault) (a b : Seen) → IsSaving f → Shows hash P f a b → Stood a.faults b.faults → Stood a.clashes b.clashes → f ≡ Memory
@@ -165,28 +224,56 @@ add-blames (Err (refusal.Store (Clash cid held bytes))) h blames = blames
 add-blames (Err (refusal.Store Memory)) h blames = blames
 
 -- the status of a bad block is that of a refusal that blames one
+pub blamed-block : (why : Refusal) → status_of why ≡ status.BadBlock → (cid : Cid) × (role : Role) × (why ≡ refusal.Store (BadBlock cid role))
+blamed-block (refusal.Rule rule) e = absurd cc
+blamed-block (refusal.Dag rule) e = absurd cc
+blamed-block (refusal.Car number place) e = absurd cc
+blamed-block (refusal.CarLacks cid) e = absurd cc
+blamed-block (refusal.OwnClash cid first second) e = absurd cc
+blamed-block (refusal.Host rule) e = absurd cc
+blamed-block (refusal.BadPath path) e = absurd cc
+blamed-block refusal.Usage e = absurd cc
+blamed-block refusal.InputTooLong e = absurd cc
+blamed-block refusal.BadPins e = absurd cc
+blamed-block (refusal.Ready reason) e = absurd cc
+blamed-block refusal.Read e = absurd cc
+blamed-block refusal.Write e = absurd cc
+blamed-block (refusal.Store Failed) e = absurd cc
+blamed-block (refusal.Store (Damaged cid)) e = absurd cc
+blamed-block (refusal.Store (Missing cid)) e = absurd cc
+blamed-block (refusal.Store (BadBlock cid role)) e = (cid, role, refl)
+blamed-block (refusal.Store (Clash cid held bytes)) e = absurd cc
+blamed-block (refusal.Store Memory) e = absurd cc
+
 pub blaming-of : (why : Refusal) → status_of why ≡ status.BadBlock → IsBlaming (fault_behind why)
-blaming-of (refusal.Rule rule) e = absurd cc
-blaming-of (refusal.Dag rule) e = absurd cc
-blaming-of (refusal.Car number place) e = absurd cc
-blaming-of (refusal.CarLacks cid) e = absurd cc
-blaming-of (refusal.OwnClash cid first second) e = absurd cc
-blaming-of (refusal.Host rule) e = absurd cc
-blaming-of (refusal.BadPath path) e = absurd cc
-blaming-of refusal.Usage e = absurd cc
-blaming-of refusal.InputTooLong e = absurd cc
-blaming-of refusal.BadPins e = absurd cc
-blaming-of (refusal.Ready reason) e = absurd cc
-blaming-of refusal.Read e = absurd cc
-blaming-of refusal.Write e = absurd cc
-blaming-of (refusal.Store Failed) e = absurd cc
-blaming-of (refusal.Store (Damaged cid)) e = absurd cc
-blaming-of (refusal.Store (Missing cid)) e = absurd cc
-blaming-of (refusal.Store (BadBlock cid role)) e = tt
-blaming-of (refusal.Store (Clash cid held bytes)) e = absurd cc
-blaming-of (refusal.Store Memory) e = absurd cc
+blaming-of why e = let k = blamed-block why e in subst (λ w. IsBlaming (fault_behind w)) (sym k.2) tt
 
 -- nothing is said of the rows of a command that adds nothing from the host
 pub no-rows : (r : Result (List ℕ) Refusal) → IfOk r (λ text. ⊤)
 no-rows (Ok text) = tt
 no-rows (Err why) = tt
+
+-- nothing is said of the length of an input where a command is refused
+pub none-long : (done : Result (Unit {0}) Refusal) → IfErr done (λ why. ⊤)
+none-long (Ok done) = tt
+none-long (Err why) = tt
+
+-- a refusal that no rule of the tree is, and that no input is too long
+pub no-long : (command : Command) (why : Refusal) (told : Told) (l m : streams.Told) → ((rule : Rule) → why ≢ refusal.Rule rule) → why ≢ refusal.InputTooLong → IsLongFor command why told l m
+no-long (Add (adding.Input only_hash)) why told l m rules longs = λ rule e. absurd (rules rule e)
+no-long (WriteInput how path) why told l m rules longs = λ e. absurd (longs e)
+no-long (Init p) why told l m rules longs = tt
+no-long (At ask path) why told l m rules longs = tt
+no-long (Read offset count path) why told l m rules longs = tt
+no-long (Prove absent path) why told l m rules longs = tt
+no-long (Cat path) why told l m rules longs = tt
+no-long (Get path host_path) why told l m rules longs = tt
+no-long (Export cid) why told l m rules longs = tt
+no-long Import why told l m rules longs = tt
+no-long (Same cid) why told l m rules longs = tt
+no-long (Adopt source dest) why told l m rules longs = tt
+no-long (Gen n seed) why told l m rules longs = tt
+no-long (Pin ask) why told l m rules longs = tt
+no-long (Add (adding.InputTo dest)) why told l m rules longs = tt
+no-long (Add (adding.HostTo recursive path dest)) why told l m rules longs = tt
+no-long (Add (adding.Host recursive only_hash path)) why told l m rules longs = tt

@@ -40,8 +40,8 @@ use Rattle.uf_command.specs.declared.types.Refusal.TheVariants as refusal
 use Rattle.uf_top.specs.Answering.{DoesAnswer, LeavesNext}
 use Rattle.uf_top.specs.Around.{AllWritten, Around, CountsCanRise, HasOutside, HostSide, LeavesAlone, MetNone, RisesFor, RoseAt, Said, TakesHost}
 use Rattle.uf_top.specs.Cars.{ByOwnStore, IsClashing, IsMissing, IsOwnClash, LacksSection}
-use Rattle.uf_top.specs.Caused.{StatusShows}
-use Rattle.uf_top.specs.Causes.{IsBadIn, IsSynced, is_read, is_write, KeepsHead}
+use Rattle.uf_top.specs.Caused.{BlamesWhereRead, StatusShows}
+use Rattle.uf_top.specs.Causes.{IsBadBlock, IsBadIn, IsSynced, is_read, is_write, KeepsHead}
 use Rattle.uf_top.specs.Endings.{EndsAs, EndsBy, FindsAll, IsRefusedBy, IsSyncedFor, IsTextOf, KeptFor, PinsUnread, PrintsAll, PrintsAt, PrintsPart, SaysPlain, may_move}
 use Rattle.uf_command.specs.Telling.{TellsEnd, TellsWhy, has_details}
 use Rattle.uf_top.specs.Getting.{GetsFor, LeavesAt}
@@ -52,7 +52,8 @@ use Rattle.uf_top.specs.Shapes.{SyncsAfter, WritesAs, is_done}
 use Rattle.uf_top.specs.Working.{Does}
 use Rattle.uf_top.proofs.Fronts.{kept-by}
 use Rattle.uf_top.proofs.Pins.{pins-after}
-use Rattle.uf_top.proofs.Shows.{blaming-of}
+use Rattle.uf_store.proofs.Calls.{shown-by}
+use Rattle.uf_top.proofs.Shows.{bad-anywhere, blamed-block, blaming-of}
 use Rattle.uf_top.proofs.Standings.{stands-kept}
 
 -- ---- which kinds no command has
@@ -545,15 +546,15 @@ module _ (a b : Around) where
       clashing OfTree cid first second h = h
 
       does-show : (command : Command) (why : Refusal) → Does X N command (Err why) a b → may_end command (refusal_kind why) ≡ true → ByOwnStore X (own_store command) a.left a.store b.store why → Says (line_of why) → StatusShows X N a b command (status_of why)
-      does-show command (refusal.Rule rule) h of sections says = (refusal.Rule rule, refl, says, h.rule refl)
-      does-show command (refusal.Dag rule) h of sections says = (refusal.Dag rule, refl, says, h.rule refl)
-      does-show command (refusal.Car number place) h of sections says = (refusal.Car number place, refl, says, h.rule refl)
+      does-show command (refusal.Rule rule) h of sections says = (refusal.Rule rule, refl, of, says, h.long)
+      does-show command (refusal.Dag rule) h of sections says = (refusal.Dag rule, refl, of, says, h.long)
+      does-show command (refusal.Car number place) h of sections says = (refusal.Car number place, refl, of, says, h.long)
       does-show command (refusal.CarLacks cid) h of sections says = (cid, lacking (own_store command) cid sections, says)
       does-show command (refusal.OwnClash cid first second) h of sections says = (cid, first, second, clashing (own_store command) cid first second sections, says)
-      does-show command (refusal.Host rule) h of sections says = (refusal.Host rule, refl, says, h.rule refl)
+      does-show command (refusal.Host rule) h of sections says = (refusal.Host rule, refl, of, says, h.long)
       does-show command (refusal.BadPath path) h of sections says = absurd (no-path command h.kinds)
       does-show command refusal.Usage h of sections says = absurd (no-usage command h.kinds)
-      does-show command refusal.InputTooLong h of sections says = (refusal.InputTooLong, refl, says, h.rule refl)
+      does-show command refusal.InputTooLong h of sections says = (refusal.InputTooLong, refl, of, says, h.long)
       does-show command refusal.BadPins h of sections says = inr (says, pins-unread command a.store.told b.store.told h.kinds h.pins)
       does-show command (refusal.Ready reason) h of sections says = inl (reason, says, h.ready)
       does-show command refusal.Read h of sections says = reading-rose (writes_host command) (uses_host command) false a.reads b.reads a.host b.host (writing-uses command) h.reads h.host
@@ -561,7 +562,8 @@ module _ (a b : Around) where
       does-show command (refusal.Store fault.Failed) h of sections says = h.cause
       does-show command (refusal.Store (fault.Damaged cid)) h of sections says = h.cause
       does-show command (refusal.Store (fault.Missing cid)) h of sections says = (cid, missing (own_store command) cid h.cause, says)
-      does-show command (refusal.Store (fault.BadBlock cid role)) h of sections says = (cid, role, h.cause, says)
+      does-show command (refusal.Store (fault.BadBlock cid role)) h of sections says =
+          (cid, role, shown-by X (IsBadIn X N a.store.told b.store.told) (IsBadBlock N a.store.told) (Some (fault.BadBlock cid role)) a.store b.store (bad-anywhere X N a.store.told b.store.told) h.cause, says)
       does-show command (refusal.Store (fault.Clash cid first second)) h of sections says = (cid, first, second, meeting (own_store command) cid first second (tree-clashes command of) h.cause, says)
       does-show command (refusal.Store fault.Memory) h of sections says = tt
 
@@ -679,6 +681,13 @@ module _ (a b : Around) where
           by : TellsWhy Says why given → a.touches < b.touches
           by (inl told) = h.touched (blaming-of why (sym told.0 ∙ is))
           by (inr told) = absurd (let k : status.Memory ≡ status.BadBlock = sym told.1 ∙ is in cc)
+
+      -- where a block lay that was called bad
+      pub blames-told : (command : Command) (done : Result (Unit {0}) Refusal) → Does X N command done a b → TellsEnd Says done given → BlamesWhereRead X N a b given
+      blames-told command (Ok done) h t is = absurd (let k : status.Ok ≡ status.BadBlock = sym t.0 ∙ is in cc)
+      blames-told command (Err why) h (inl t) is = let k = blamed-block why (sym t.0 ∙ is) in
+          (k.0, k.1, subst (λ w. Shown X (IsBadIn X N a.store.told b.store.told) (fault_behind w) a.store b.store) k.2 h.cause, subst (λ w. Says (line_of w)) k.2 t.1)
+      blames-told command (Err why) h (inr t) is = absurd (let k : status.Memory ≡ status.BadBlock = sym t.1 ∙ is in cc)
 
       -- ---- what is printed, and what is left
 

@@ -18,7 +18,6 @@ use Rattle.uf_tree.specs.declared.profile.Profile.{Profile}
 use Rattle.uf_command.specs.Natures.{OfTree}
 use Rattle.uf_command.specs.Kinds.{gen_kinds, OfWrite, fault_behind, may_meet, refusal_kind}
 use Rattle.uf_command.specs.Statuses.{no_memory, status_of}
-use Rattle.uf_command.specs.declared.status.Status.TheVariants as status
 use Rattle.uf_command.specs.declared.types.Command.TheVariants.{Gen}
 use Rattle.uf_command.specs.declared.types.Refusal.{Refusal}
 use Rattle.uf_command.specs.declared.types.Refusal.TheVariants as refusal
@@ -72,7 +71,6 @@ module _ (X : List ℕ → List ℕ) (N : List ℕ → ℕ) (n seed : ℕ) (s : 
     kinds : may_meet gen_kinds (refusal_kind why) ≡ true
     other : refusal_kind why ≢ OfWrite
     unread : is_read {A = Unit {0}} (Err why) ≡ false
-    rule : status_of why ≡ status.Rule → (rule : Rule) × (why ≡ refusal.Rule rule)
     blames : IsBlaming (fault_behind why) → ⊥
     cause : Shown X (IsBadIn X N s.told s.told) (fault_behind why) s s
     says : MetNone (Ok (Gen n seed)) (status_of why) → Says why
@@ -82,7 +80,6 @@ module _ (X : List ℕ → List ℕ) (N : List ℕ → ℕ) (n seed : ℕ) (s : 
     kinds = refl;
     other = λ e. cc;
     unread = refl;
-    rule = λ e. absurd cc;
     blames = λ b. b;
     cause = calm-memory s s (StaysCalm-refl s);
     says = λ none. inl refl;
@@ -93,7 +90,6 @@ module _ (X : List ℕ → List ℕ) (N : List ℕ → ℕ) (n seed : ℕ) (s : 
     kinds = refl;
     other = λ e. cc;
     unread = refl;
-    rule = λ e. (rule, refl);
     blames = λ b. b;
     cause = StaysCalm-refl s;
     says = λ none. inr g;
@@ -114,7 +110,6 @@ module _ (X : List ℕ → List ℕ) (N : List ℕ → ℕ) (n seed : ℕ) (s : 
     kinds = refl;
     other = λ e. cc;
     unread = refl;
-    rule = λ e. absurd cc;
     blames = λ b. b;
     cause = StaysCalm-refl s;
     says = λ none. absurd (none refl refl);
@@ -133,7 +128,7 @@ module _ (X : List ℕ → List ℕ) (N : List ℕ → ℕ) (n seed : ℕ) (s : 
         prints = quiet.prints h h (else-same false h);
         kinds = may-end (Gen n seed) why of.kinds;
         ready = ready why g;
-        rule = of.rule;
+        long = tt;
         reads = subst (λ u. Counts u i i) (sym of.unread) (counts-still i);
         host = refl;
         gets = tt;
@@ -187,7 +182,7 @@ module _ (X : List ℕ → List ℕ) (N : List ℕ → ℕ) (n seed : ℕ) (s : 
       prints = (text, g, is);
       kinds = tt;
       ready = tt;
-      rule = tt;
+      long = tt;
       reads = counts-still i;
       host = refl;
       gets = tt;
@@ -220,7 +215,7 @@ module _ (X : List ℕ → List ℕ) (N : List ℕ → ℕ) (n seed : ℕ) (s : 
       prints = (text, g, c.printed);
       kinds = refl;
       ready = tt;
-      rule = λ is. absurd cc;
+      long = tt;
       reads = counts-still i;
       host = refl;
       gets = tt;

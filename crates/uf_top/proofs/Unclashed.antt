@@ -18,7 +18,7 @@ use Rattle.uf_top.specs.Cars.{ByOwnStore}
 use Rattle.uf_top.specs.Causes.{KeepsHead}
 use Rattle.uf_top.specs.Working.{Does}
 use Rattle.uf_top.proofs.Fronts.{kept-by}
-use Rattle.uf_top.proofs.Shows.{not-rose}
+use Rattle.uf_top.proofs.Shows.{no-long, not-rose}
 use Rattle.uf_top.proofs.Telling.{detailed-gets, detailed-pins}
 
 -- the Head stays as well
@@ -37,7 +37,7 @@ module _ (X : List ℕ → List ℕ) (N : List ℕ → ℕ) (command : Command) 
     prints = h.prints;
     kinds = refl;
     ready = tt;
-    rule = λ is. absurd cc;
+    long = no-long command no_memory a.store.told a.left b.left (λ rule e. cc) (λ e. cc);
     reads = h.reads;
     host = h.host;
     gets = detailed-gets a b status.Ok X N command a.store.told a.host.told b.host.told status.Clash refl h.gets;

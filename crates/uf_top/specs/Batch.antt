@@ -20,6 +20,7 @@ use Rattle.uf_command.specs.declared.types.Refusal.{Refusal}
 use Rattle.uf_command.specs.declared.types.Refusal.TheVariants as refusal
 use Rattle.uf_top.specs.Around.{Around, Said, SameButErrors, SinkSide}
 use Rattle.uf_top.specs.Cars.{ByOwnStore}
+use Rattle.uf_top.specs.Caused.{BlamesWhereRead}
 use Rattle.uf_top.specs.Running.{Runs}
 use Rattle.uf_top.specs.Working.{Serves}
 
@@ -97,6 +98,7 @@ module _ (X : List ℕ → List ℕ) (N : List ℕ → ℕ) where
     pub asked : Result Command Refusal
     pub asks : (line_in line ≡ Some asked) ⊎ (asked ≡ Err no_memory)
     pub runs : Runs X N asked given before now
+    pub blames : BlamesWhereRead X N before now given
 
   -- a line was done, its status printed, and the batch goes on
   pub record LinePassed (line : List ℕ) (before now : Around) : Type 0 where

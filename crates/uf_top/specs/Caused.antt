@@ -1,5 +1,5 @@
 -- Why a command ended with its status.
-use Rattle.std.specs.Prelude.{List, ℕ, ⊤}
+use Rattle.std.specs.Prelude.{◌≡◌, List, ℕ, ⊤}
 use Rattle.uf_cid.specs.declared.cid.Cid.{Cid}
 use Rattle.uf_command.specs.Natures.{own_store, uses_host, writes_host}
 use Rattle.uf_command.specs.Lines.{bad_block_line, clash_line, missing_line}
@@ -10,12 +10,12 @@ use Rattle.uf_store.specs.Faults.{ShowsBadBlock, ShowsFailure}
 use Rattle.uf_store.specs.declared.store.Role.{Role}
 use Rattle.uf_top.specs.Around.{Around, RoseAt, Said}
 use Rattle.uf_top.specs.Cars.{IsClashing, IsMissing}
-use Rattle.uf_top.specs.Causes.{IsBadIn}
+use Rattle.uf_top.specs.Causes.{IsBadBlock, IsBadIn}
 use Rattle.uf_top.specs.Endings.{IsNotReady, IsRule}
 
 module _ (X : List ℕ → List ℕ) (N : List ℕ → ℕ) (before now : Around) where
   -- the cause of each status of a command, with its details in the line. It is a rule, a count that rose, a block that
-  -- was missed, one that isn't canonical where it is read, two of one digest, or the bytes of the Head
+  -- was missed, one that was found and isn't canonical in its role, two of one digest, or the bytes of the Head
   abbrev pub StatusShows : Command → Status → Type 0
   StatusShows command status.Ok = ⊤
   StatusShows command status.Rule = IsRule command before now
@@ -25,7 +25,7 @@ module _ (X : List ℕ → List ℕ) (N : List ℕ → ℕ) (before now : Around
       × IsMissing X (own_store command) before.left cid before.store now.store
       × Said before.errors now.errors (missing_line cid)
   StatusShows command status.BadBlock = (cid : Cid) × (role : Role)
-      × ShowsBadBlock X (IsBadIn X N before.store.told now.store.told) cid role before.store now.store
+      × ShowsBadBlock X (IsBadBlock N before.store.told) cid role before.store now.store
       × Said before.errors now.errors (bad_block_line cid role)
   StatusShows command status.ReadFault =
       RoseAt (uses_host command) before.reads now.reads before.host.reads now.host.reads
@@ -36,3 +36,9 @@ module _ (X : List ℕ → List ℕ) (N : List ℕ → ℕ) (before now : Around
       × Said before.errors now.errors (clash_line cid held bytes)
   StatusShows command status.Memory = ⊤
   StatusShows command status.NotReady = IsNotReady command before now
+
+  -- a block that was called bad isn't canonical where it lay: in the tree that the Head names, or in a file
+  abbrev pub BlamesWhereRead : Status → Type 0
+  BlamesWhereRead given = given ≡ status.BadBlock → (cid : Cid) × (role : Role)
+      × ShowsBadBlock X (IsBadIn X N before.store.told now.store.told) cid role before.store now.store
+      × Said before.errors now.errors (bad_block_line cid role)

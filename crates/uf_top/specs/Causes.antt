@@ -11,6 +11,7 @@ use Rattle.uf_cid.specs.Blocks.{Held}
 use Rattle.uf_cid.specs.declared.cid.Cid.{Cid}
 use Rattle.uf_edge.specs.Streams.{before, Exceeds, IsWhole}
 use Rattle.uf_edge.specs.Streams as streams
+use Rattle.uf_dir.specs.Bad.{IsOffWay}
 use Rattle.uf_fileread.specs.Bad.{IsBadInFile}
 use Rattle.uf_mfs.specs.Bad.{IsBadInHead, IsHeadTold}
 use Rattle.uf_mfs.specs.Standing.{LeavesHead, head_in}
@@ -20,6 +21,7 @@ use Rattle.uf_plain.specs.declared.ready.Ready.{Ready}
 use Rattle.uf_plain.specs.declared.ready.Ready.TheVariants as ready
 use Rattle.uf_plain.specs.declared.rule.Rule.TheVariants.{FileTooLong}
 use Rattle.uf_store.specs.declared.store.Role.{Role}
+use Rattle.uf_store.specs.declared.store.Role.TheVariants.{Directory, Shard, FileNode, Leaf}
 use Rattle.uf_store.specs.Among.{SavesAmong}
 use Rattle.uf_store.specs.Clashes.{IsSaving}
 use Rattle.uf_store.specs.declared.store.StoreFault.TheVariants.{Memory}
@@ -28,6 +30,7 @@ use Rattle.uf_store.specs.declared.store.Write.TheVariants.{Synced}
 use Rattle.uf_store.specs.Contents.{Told}
 use Rattle.uf_store.specs.Keeping.{Holds}
 use Rattle.uf_tree.specs.HeadReading.{head_reads}
+use Rattle.uf_tree.specs.Roles.{IsCanonicalDirectory}
 use Rattle.uf_tree.specs.declared.head_fault.HeadFault.{HeadFault}
 use Rattle.uf_tree.specs.declared.profile.Head.{Head}
 use Rattle.uf_tree.specs.declared.profile.Profile.{Profile}
@@ -38,7 +41,7 @@ use Rattle.uf_command.specs.declared.types.Refusal.{Refusal}
 use Rattle.uf_command.specs.declared.types.Refusal.TheVariants as refusal
 use Rattle.uf_command.specs.Kinds.{is_of, read_kind, refusal_fault, write_kind}
 use Rattle.uf_command.specs.Lines.{added_line}
-use Rattle.uf_command.specs.Natures.{HeadNeed, AnyHead, NoHeadYet, AHead, nature}
+use Rattle.uf_command.specs.Natures.{HeadNeed, NoHeadYet, AHead, nature}
 use Rattle.uf_command.specs.Statuses.{no_memory, status_of}
 use Rattle.uf_command.specs.declared.status.Status.TheVariants as status
 use Rattle.uf_top.specs.Reply.{file_cid, most_input}
@@ -103,12 +106,10 @@ IsReasonInTree ready.BadHead told = IfSome told (λ t. IsUnread t.notes.head)
 -- for this reason the Head is refused where it is needed so, where the store tells: it is there, isn't read, or isn't
 -- there
 abbrev pub IsReasonFor : HeadNeed → Ready → Told → Type 0
-IsReasonFor AnyHead why told = ⊥
 IsReasonFor NoHeadYet ready.HeadThere told = IfSome told (λ t. (text : List ℕ) × (t.notes.head ≡ Some text))
-IsReasonFor NoHeadYet why told = ⊥
 IsReasonFor (AHead true) ready.BadHead told = IfSome told (λ t. IsUnread t.notes.head)
-IsReasonFor (AHead true) why told = ⊥
 IsReasonFor (AHead false) why told = IsReasonInTree why told
+IsReasonFor need why told = ⊥
 
 -- for this reason a command refuses the Head
 abbrev pub IsReason : Command → Ready → Told → Type 0
@@ -130,6 +131,20 @@ abbrev pub IsBadIn : (List ℕ → List ℕ) → (List ℕ → ℕ) → (before 
 IsBadIn X N before now role bytes = IsBadInHead X N before role bytes
     ⊎ ((file : Cid) × IsBadInFile before file role bytes)
     ⊎ ((head : Head) × IsHeadTold before head × IsBadAsked X N head.profile now head.root role bytes)
+
+-- the block isn't canonical in this role, where a profile is known, by that: as the root of a directory, or as a shard
+-- on some way. A node and a leaf of a file are bad where they lie alone
+abbrev pub IsBadAs : (List ℕ → ℕ) → Option Profile → Role → List ℕ → Type 0
+IsBadAs N profile Directory bytes = IsCanonicalDirectory profile true bytes → ⊥
+IsBadAs N profile (Shard level) bytes = IsOffWay N level bytes
+IsBadAs N profile FileNode bytes = ⊤
+IsBadAs N profile Leaf bytes = ⊤
+
+-- the same by no profile, or by that of the Head
+pub record IsBadBlock (N : List ℕ → ℕ) (told : Told) (role : Role) (bytes : List ℕ) : Type 0 where
+  pub profile : Option Profile
+  pub is_known : IfSome profile (IsProfileOf told)
+  pub bad : IsBadAs N profile role bytes
 
 -- the Head moves only where a command is done that prints nothing, or that prints after that
 abbrev pub HeadStays : Result (List ℕ) Refusal → (prints_after : Bool) → Told → Told → Type 0

@@ -55,8 +55,8 @@ module _ (X : List ℕ → List ℕ) (N : List ℕ → ℕ) (absent : Bool) (roo
     pub first : (bytes : List ℕ) (p : Profile) (t : Tree) (height : ℕ) → left ≡ Some bytes → IsTreeAt X N p root t
         → HasHeight p height (at 0 names t)
         → ClashesWithPlan X (blocks X N p t) (car_read X most_of_proof bytes).sections ⊎ ComesFirst answer held held_now
-    -- whatever the root is of: with names below it, it is that of a directory, and so are its sections, unless two
-    -- blocks clash
+    -- whatever the root is of: with names below it, a section of its CID is there, whose block is canonical as the root
+    -- of a directory, and each section of that CID has this block
     pub root_section : (bytes : List ℕ) → left ≡ Some bytes
         → IfOk answer (λ n. IsAboveNames X root names (car_read X most_of_proof bytes).sections)
     -- with `absent` the line was written and nothing else

@@ -1,5 +1,5 @@
 -- What `repo gc` keeps and lets go, and what it answers.
-use Rattle.std.specs.Prelude.{◌≡◌, ◌⊎◌, ℕ, ◌+◌, List, [], ◌∷◌, ◌++◌, Bool, true, false, Contains, IfSome}
+use Rattle.std.specs.Prelude.{◌≡◌, ◌⊎◌, ℕ, ◌+◌, ◌≤◌, List, [], ◌∷◌, ◌++◌, Bool, true, false, Contains, IfOk, IfSome, length}
 use Rattle.std.specs.FinMap.{len}
 use Rattle.std.specs.declared.option.Option.{Option}
 use Rattle.std.specs.declared.option.Option.TheVariants.{None, Some}
@@ -118,6 +118,15 @@ abbrev pub KeepsFor : Contents → Result (List Cid) Refusal → Told → Type 0
 KeepsFor t (Ok list) told = KeepsList t list told
 KeepsFor t (Err why) told = KeepsAll t told
 
+-- ---- how many touches are made
+
+-- how many touches a collection makes: at most one for each CID that is kept, over a store that tells by what the notes
+-- say; and over every store at most as many as CIDs may be kept
+pub record TouchesKept (told : Told) (was now : ℕ) : Type 0 where
+  pub each : (t : Contents) (listed : Option (List Cid)) → told ≡ Some t → IsReadAs t.notes.pins listed
+      → IfOk (kept_in t listed) (λ list. now ≤ was + length list)
+  pub most : now ≤ was + most_blocks
+
 -- ---- what is answered
 
 -- the number was printed, or why it wasn't; a refusal prints nothing
@@ -154,6 +163,8 @@ module _ (X : List ℕ → List ℕ) (N : List ℕ → ℕ) where
     -- to isn't there, all stays
     pub keeps : (t : Contents) (listed : Option (List Cid)) → before.store.told ≡ Some t
         → IsReadAs t.notes.pins listed → KeepsFor t (kept_in t listed) now.store.told
+    -- whatever failed, it made at most one touch for each CID that is kept, and at most as many as CIDs may be kept
+    pub touched : TouchesKept before.store.told before.touches now.touches
     -- the tree stands as before, and is as safe from stops as it was
     pub stands : (standing : Standing) → TellsAs X N before.store.told standing → TellsAs X N now.store.told standing
     pub safe : (t u : Contents) (p : Profile) (es : Entries) → before.store.told ≡ Some t

@@ -108,8 +108,8 @@ module _ (X : List ℕ → List ℕ) (N : List ℕ → ℕ) where
       → IsErr done × (now.told ≡ before.told)
 
   -- a tree that is put at this spot saves its own blocks, and those of the tree that this gives, and no others
-  abbrev pub SavesPut : Mfs → Spot → Tree → Seen → Seen → Type 0
-  SavesPut tree spot t before now = (p : Profile) (es : Entries) → StandsOver X N before.told tree p es
+  abbrev pub SavesAtSpot : Mfs → Spot → Tree → Seen → Seen → Type 0
+  SavesAtSpot tree spot t before now = (p : Profile) (es : Entries) → StandsOver X N before.told tree p es
       → Agrees now.told (blocks X N p (Dir es)) → CountsCanRise before
       → SavesNoOther X (put_blocks X N (Ok spot) (t ∷ []) p es) before.told now.told
 

@@ -1,5 +1,5 @@
 -- How a command was done, before anything of it is printed: what it answers, why, and what it leaves.
-use Rattle.std.specs.Prelude.{◌≡◌, ◌⊎◌, ℕ, ◌+◌, ◌<◌, ◌≤◌, List, [], Bool, false, true, IfErr, IfOk, IfSome}
+use Rattle.std.specs.Prelude.{◌≡◌, ◌⊎◌, ℕ, ◌+◌, ◌<◌, ◌≤◌, List, [], false, true, IfErr, IfOk, IfSome}
 use Rattle.uf_cid.specs.Blocks.{Lookup}
 use Rattle.std.specs.declared.result.Result.{Result}
 use Rattle.std.specs.declared.result.Result.TheVariants.{Ok, Err}
@@ -31,7 +31,7 @@ use Rattle.uf_command.specs.Telling.{Prints}
 use Rattle.uf_command.specs.Kinds.{IsOf, may_meet, may_close, opened_kinds, refusal_fault}
 use Rattle.uf_top.specs.Reply.{Outside, World, in_world, outside_of, reply, tree_reply}
 use Rattle.uf_edits.specs.Edits.{IsBadAsked}
-use Rattle.uf_command.specs.Statuses.{ended, no_memory, status_of}
+use Rattle.uf_command.specs.Statuses.{ended, no_memory}
 use Rattle.uf_command.specs.declared.status.Status.TheVariants as status
 use Rattle.uf_top.specs.Answering.{Answers, DoesAnswer, LeavesNext}
 use Rattle.uf_top.specs.Around.{Around, CountsCanRise, HasOutside, LeavesAlone, RisesFor, SameButErrors, StaysQuiet}
@@ -39,7 +39,7 @@ use Rattle.uf_top.specs.Around.{TakesHost, UsesHost}
 use Rattle.uf_top.specs.Around.{is_input_read, is_output_write}
 use Rattle.uf_top.specs.Bounds.{ask_touches, command_touches}
 use Rattle.uf_top.specs.Causes.{HeadStays, IsAskText, IsBadIn, IsReady, KeepsHead, is_read, is_write}
-use Rattle.uf_top.specs.Endings.{AddsFor, FindsAll, IsTextOf, PrintsAt, PrintsPart, RuleOf, KeptFor}
+use Rattle.uf_top.specs.Endings.{AddsFor, FindsAll, IsTextOf, IsLongFor, PrintsAt, PrintsPart, KeptFor}
 use Rattle.uf_top.specs.Getting.{GetsFor}
 use Rattle.uf_top.specs.Hosted.{IsHostedText}
 use Rattle.uf_top.specs.Losing.{AnswersOver, DoesOver, ask_needs, command_needs}
@@ -135,8 +135,7 @@ module _ (X : List ℕ → List ℕ) (N : List ℕ → ℕ) where
         (flows command) (ended done) before.held now.held
     pub kinds : IsOf (may_close (kinds_of command)) done
     pub ready : IsReady before.store.told command done
-    pub rule : IfErr done (λ why. status_of why ≡ status.Rule → RuleOf command why before.store.told before.left
-        now.left)
+    pub long : IfErr done (λ why. IsLongFor command why before.store.told before.left now.left)
     pub reads : Counts (is_input_read command done) before.reads now.reads
     pub host : TakesHost (writes_host command) (uses_host command) (is_read done) (is_write done) before.host now.host
     pub gets : GetsFor command (ended done) before.store.told before.host.told now.host.told

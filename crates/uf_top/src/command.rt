@@ -17,6 +17,7 @@ ghost use Rattle.uf_command.specs.declared.types.Command.{Command as TheCommand}
 ghost use Rattle.uf_command.specs.declared.types.Refusal.{Refusal as TheRefusal};
 ghost use Rattle.uf_top.specs.Lent.{OverAll, lent};
 ghost use Rattle.uf_top.specs.Batch.{Batches};
+ghost use Rattle.uf_top.specs.Caused.{BlamesWhereRead};
 ghost use Rattle.uf_top.specs.Checking.{RunsCheck};
 ghost use Rattle.uf_top.specs.Collecting.{RunsGc};
 ghost use Rattle.uf_top.specs.Running.{Runs};
@@ -75,6 +76,14 @@ pub fn run<S: Sweep, N: NameHash, W: Host, I: Source, O: Sink, E: Sink, L: Ledge
         → Runs S.X.block32 N.name64 asked result
         (lent I.Source O.Sink W.Host E.Sink (S.seen store.old) input.old output.old touches.old host.old errors.old)
         (lent I.Source O.Sink W.Host E.Sink (S.seen store.new) input.new output.new touches.new host.new errors.new) }
+
+    // A block that is called bad isn't canonical where it lay: in the tree that the Head names, or in a file.
+    ensures blames { (asked : TheResult TheCommand TheRefusal)
+        → request_in (map string_bytes words.now) ≡ requests.One asked
+        → BlamesWhereRead S.X.block32 N.name64
+        (lent I.Source O.Sink W.Host E.Sink (S.seen store.old) input.old output.old touches.old host.old errors.old)
+        (lent I.Source O.Sink W.Host E.Sink (S.seen store.new) input.new output.new touches.new host.new errors.new)
+        result }
 
     // Of `batch`: every line that has a word did what was said of a command, one after the other.
     ensures batch { request_in (map string_bytes words.now) ≡ requests.Batch

@@ -33,13 +33,8 @@ pub fn init<S: Store, N: NameHash, L: Ledger>(
     ensures { OverStore (Makes S.X.block32 N.name64 (commands.Init profile) result)
         (S.seen store.old) touches.old (S.seen store.new) touches.new }
 {
-    match Mfs::init::<S, N, L>(alloc, store, profile, touches) {
-        Err(fault) => Err(opening(fault)),
-        Ok(tree) => {
-            let _ = tree;
-            Ok(Block::new(alloc))
-        }
-    }
+    let _ = Mfs::init::<S, N, L>(alloc, store, profile, touches).map_err(opening)?;
+    Ok(Block::new(alloc))
 }
 
 // Does what is asked at a path of the tree that the Head names.
@@ -93,10 +88,8 @@ fn names_at<S: Store, N: NameHash, L: Ledger>(
     ensures { WorksAt S.X.block32 N.name64 tree.now (asks.Ls false) path.now result (S.seen store.old)
         (S.seen store.new) touches.old touches.new }
 {
-    match tree.names::<S, N, L>(alloc, store, path, touches) {
-        Err(fault) => Err(refusal(fault)),
-        Ok(names) => made(name_lines(alloc, &names)),
-    }
+    let found = tree.names::<S, N, L>(alloc, store, path, touches);
+    made(name_lines(alloc, &found.map_err(refusal)?))
 }
 
 // The rows of what is at a path.
@@ -110,10 +103,8 @@ fn rows_at<S: Store, N: NameHash, L: Ledger>(
     ensures { WorksAt S.X.block32 N.name64 tree.now (asks.Ls true) path.now result (S.seen store.old)
         (S.seen store.new) touches.old touches.new }
 {
-    match tree.ls::<S, N, L>(alloc, store, path, touches) {
-        Err(fault) => Err(refusal(fault)),
-        Ok(rows) => made(row_lines(alloc, &rows)),
-    }
+    let found = tree.ls::<S, N, L>(alloc, store, path, touches);
+    made(row_lines(alloc, &found.map_err(refusal)?))
 }
 
 // What is said of what is at a path.
@@ -127,10 +118,8 @@ fn stat_at<S: Store, N: NameHash, L: Ledger>(
     ensures { WorksAt S.X.block32 N.name64 tree.now asks.Stat path.now result (S.seen store.old) (S.seen store.new)
         touches.old touches.new }
 {
-    match tree.stat::<S, N, L>(alloc, store, path, touches) {
-        Err(fault) => Err(refusal(fault)),
-        Ok(stat) => made(stat_text(alloc, &stat)),
-    }
+    let found = tree.stat::<S, N, L>(alloc, store, path, touches);
+    made(stat_text(alloc, &found.map_err(refusal)?))
 }
 
 // Edits the tree at a path, and writes its Head. Nothing is printed.
@@ -148,13 +137,10 @@ pub fn edit_at<S: Store, N: NameHash, L: Ledger>(
         (S.seen store.new) touches.old touches.new }
 {
     let mut tree = tree;
-    match edited::<S, N, L>(alloc, &mut tree, edit, path, store, touches) {
-        Err(fault) => Err(refusal(fault)),
-        Ok(()) => match tree.commit::<S, N, L>(alloc, store, touches) {
-            Err(fault) => Err(refusal(fault)),
-            Ok(()) => Ok(Block::new(alloc)),
-        },
-    }
+    edited::<S, N, L>(alloc, &mut tree, edit, path, store, touches).map_err(refusal)?;
+    tree.commit::<S, N, L>(alloc, store, touches)
+        .map_err(refusal)?;
+    Ok(Block::new(alloc))
 }
 
 // The fault of a call that opens a tree as a refusal. No rule refuses that, and nothing is printed there.

@@ -21,7 +21,7 @@ ghost use Rattle.uf_tree.specs.Tree.{Dir, Entries, Tree};
 ghost use Rattle.uf_tree.specs.TreePlan.{blocks};
 ghost use Rattle.uf_tree.specs.declared.profile.Profile.{Profile as TheProfile};
 ghost use Rattle.uf_top.specs.Grafts.{BuildsPlanned, FollowsOr, GraftsIn, IsLostBy, LeavesUnplaced, PutsTree};
-ghost use Rattle.uf_top.specs.Grafts.{SavesAdopted, SavesPut, TouchesUp};
+ghost use Rattle.uf_top.specs.Grafts.{SavesAdopted, SavesAtSpot, TouchesUp};
 ghost use Rattle.uf_top.specs.Losing.{placing_needs};
 ghost use Rattle.uf_top.specs.Grafts.{adopt_refusal, graft_kinds, put_tree};
 ghost use Rattle.uf_top.specs.Naming.{TellsBlocks};
@@ -135,10 +135,8 @@ fn spot_for<S: Store, N: NameHash, L: Ledger>(
     ensures touched { CountsUp (refusal_fault result) touches.old touches.new }
 {
     let name = adopted_name(alloc, source)?;
-    match tree.spot::<S, N, L>(alloc, store, dest, Some(&name), touches) {
-        Err(fault) => Err(refusal(fault)),
-        Ok(spot) => Ok(spot),
-    }
+    tree.spot::<S, N, L>(alloc, store, dest, Some(&name), touches)
+        .map_err(refusal)
 }
 
 // Puts the tree that a CID denotes, which was surveyed, at a spot, in memory.
@@ -159,7 +157,7 @@ fn put_at<S: Store, N: NameHash, L: Ledger>(
         (put_tree S.X.block32 N.name64 spot.now t) result (S.seen store.old) (S.seen store.new) }
     ensures no_other { (held : Lookup) (t : Tree) → HoldsGoodMap S.X.block32 held (S.seen store.old).told
         → denotes held usual_limits cid.now ≡ Ok t
-        → SavesPut S.X.block32 N.name64 tree.old spot.now t (S.seen store.old) (S.seen store.new) }
+        → SavesAtSpot S.X.block32 N.name64 tree.old spot.now t (S.seen store.old) (S.seen store.new) }
     ensures saves { OnlySaves S.X.block32
         (IsBadInTree S.X.block32 N.name64 (Some tree.old.profile) tree.old.root.cid) (refusal_fault result)
         (S.seen store.old) (S.seen store.new) }
@@ -169,10 +167,8 @@ fn put_at<S: Store, N: NameHash, L: Ledger>(
     ensures touched { TouchesUp result touches.old touches.new }
 {
     let entry = built::<S, N, L>(alloc, tree, source, cid, store, touches)?;
-    match tree.place::<S, N, L>(alloc, store, spot, &entry, touches) {
-        Err(fault) => Err(refusal(fault)),
-        Ok(()) => Ok(()),
-    }
+    tree.place::<S, N, L>(alloc, store, spot, &entry, touches)
+        .map_err(refusal)
 }
 
 // The entry of the tree that a CID denotes, by the profile of the tree.

@@ -1,6 +1,6 @@
 //! `repo gc`: what neither the tree nor a pin leads to, let go.
 ghost use Rattle.std.specs.Prelude.{◌≡◌};
-ghost use Rattle.uf_top.specs.Collecting.{LetsGo, LetsGoAndPrints, ReadsRoots, RootsIn};
+ghost use Rattle.uf_top.specs.Collecting.{LetsGo, LetsGoAndPrints, ReadsRoots, RootsIn, TouchesKept};
 ghost use Rattle.uf_top.specs.Intake.{ShownIn};
 
 use crate::commands::dag::MOST_BLOCKS;
@@ -21,8 +21,9 @@ pub fn collect_rest<S: Sweep, O: Sink, L: Ledger>(
     output: &mut O,
     touches: &mut Steps<L>,
 ) -> Result<(), Refusal>
-    ensures { LetsGoAndPrints S.X.block32 result (S.seen store.old) (S.seen store.new) (O.holds output.old)
+    ensures prints { LetsGoAndPrints S.X.block32 result (S.seen store.old) (S.seen store.new) (O.holds output.old)
         (O.holds output.new) (O.faults output.old) (O.faults output.new) }
+    ensures touches { TouchesKept (S.seen store.old).told touches.old touches.new }
 {
     let count = let_go(alloc, store, touches)?;
     let row = removed_row(alloc, count)?;
@@ -35,7 +36,8 @@ fn let_go<S: Sweep, L: Ledger>(
     store: &mut S,
     touches: &mut Steps<L>,
 ) -> Result<u64, Refusal>
-    ensures { LetsGo S.X.block32 result (S.seen store.old) (S.seen store.new) }
+    ensures goes { LetsGo S.X.block32 result (S.seen store.old) (S.seen store.new) }
+    ensures touches { TouchesKept (S.seen store.old).told touches.old touches.new }
 {
     let roots = tree_roots(alloc, store)?;
     Ok(collect(alloc, store, &roots, MOST_BLOCKS, touches)?)

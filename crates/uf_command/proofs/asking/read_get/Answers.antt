@@ -1,5 +1,5 @@
 use Rattle.uf_command.proofs.Few.{dag-few}
 use Rattle.uf_command.proofs.asking.read_get.Goals as goal
 
-pub returns-in-Ok-clause-profile : goal.returns-in-Ok-clause-profile
-returns-in-Ok-clause-profile c = dag-few c.as_str.result.now c.in-Ok.path c.in-Ok.ensures
+pub returns-clause-profile : goal.returns-clause-profile
+returns-clause-profile c = dag-few c.as_str.result.now c.in_ok-path.path c.in_ok-path.ensures

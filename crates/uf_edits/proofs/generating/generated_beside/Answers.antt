@@ -19,5 +19,5 @@ returns-in-Err g c =
 
 pub returns : goal.returns
 returns g c =
-    told-lines g.X.BlockHash.block32 g.N.NameHash.name64 c.args.n c.args.seed c.args.root.now c.in-Ok.fresh c.in-Ok-generated_lines.text
-    c.requires.grown c.in-Ok.ensures.answer c.in-Ok-generated_lines.ensures
+    told-lines g.X.BlockHash.block32 g.N.NameHash.name64 c.args.n c.args.seed c.args.root.now c.in-Ok.fresh c.in_ok-generated_lines-in-Ok.field-0
+    c.requires.grown c.in-Ok.ensures.answer c.in_ok-generated_lines-in-Ok.ensures

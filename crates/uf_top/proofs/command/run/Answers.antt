@@ -12,7 +12,7 @@ use Rattle.uf_top.specs.Around.{around, host_side}
 use Rattle.uf_top.specs.Talking.{RunsPull}
 use Rattle.uf_top.proofs.Checked.{check-wants, checked-as}
 use Rattle.uf_top.proofs.Collected.{gc-runs, gc-wants}
-use Rattle.uf_top.proofs.Runs.{runs-told}
+use Rattle.uf_top.proofs.Runs.{blames-of, runs-told}
 use Rattle.uf_top.proofs.Standings.{stands-one}
 use Rattle.uf_top.proofs.Talks.{pull-wants, serve-wants}
 use Rattle.uf_top.proofs.Wanted.{batch-wants}
@@ -35,6 +35,15 @@ returns-in-One-clause-runs g c = λ asked is.
     (around (g.S.Store.seen c.serve-done.new.store) (g.I.Source.left c.serve-done.new.input) (g.I.Source.faults c.serve-done.new.input) (g.O.Sink.holds c.serve-done.new.output) (g.O.Sink.faults c.serve-done.new.output) c.serve-done.new.touches (host_side (g.W.Host.tree c.serve-done.new.host) (g.W.Host.read_faults c.serve-done.new.host) (g.W.Host.write_faults c.serve-done.new.host)) (record { held = g.E.Sink.holds c.tell_end.new.errors; faults = g.E.Sink.faults c.tell_end.new.errors }))
     asked c.serve-done.result w (c.serve-done.ensures.serves asked h (record { held = g.E.Sink.holds c.args.errors.now; faults = g.E.Sink.faults c.args.errors.now }) (record { held = g.E.Sink.holds c.tell_end.new.errors; faults = g.E.Sink.faults c.tell_end.new.errors })) (c.serve-done.ensures.own asked h w) (c.serve-done.ensures.kinds asked h) c.tell_end.ensures
 
+pub returns-in-One-clause-blames : goal.returns-in-One-clause-blames
+returns-in-One-clause-blames g c = λ asked is.
+    let h : IsAsked c.in-One.asked asked = read-alone (map string_bytes c.args.words.now) c.in-One.asked asked is c.in-One.ensures.asked in
+    let w : IsOfWords asked = of-words (map string_bytes c.args.words.now) asked is in
+    blames-of c.tell_end.result g.S.X.BlockHash.block32 g.N.NameHash.name64
+    (around (g.S.Store.seen c.args.store.now) (g.I.Source.left c.args.input.now) (g.I.Source.faults c.args.input.now) (g.O.Sink.holds c.args.output.now) (g.O.Sink.faults c.args.output.now) c.args.touches.now (host_side (g.W.Host.tree c.args.host.now) (g.W.Host.read_faults c.args.host.now) (g.W.Host.write_faults c.args.host.now)) (record { held = g.E.Sink.holds c.args.errors.now; faults = g.E.Sink.faults c.args.errors.now }))
+    (around (g.S.Store.seen c.serve-done.new.store) (g.I.Source.left c.serve-done.new.input) (g.I.Source.faults c.serve-done.new.input) (g.O.Sink.holds c.serve-done.new.output) (g.O.Sink.faults c.serve-done.new.output) c.serve-done.new.touches (host_side (g.W.Host.tree c.serve-done.new.host) (g.W.Host.read_faults c.serve-done.new.host) (g.W.Host.write_faults c.serve-done.new.host)) (record { held = g.E.Sink.holds c.tell_end.new.errors; faults = g.E.Sink.faults c.tell_end.new.errors }))
+    asked c.serve-done.result (c.serve-done.ensures.serves asked h (record { held = g.E.Sink.holds c.args.errors.now; faults = g.E.Sink.faults c.args.errors.now }) (record { held = g.E.Sink.holds c.tell_end.new.errors; faults = g.E.Sink.faults c.tell_end.new.errors })) w c.tell_end.ensures
+
 pub returns-in-One-clause-batch : goal.returns-in-One-clause-batch
 returns-in-One-clause-batch g c = λ is.
     let m : c.in-One.asked ≡ Err no_memory = subst (IsAskedAlone c.in-One.asked) is c.in-One.ensures.asked in
@@ -53,6 +62,9 @@ returns-in-Batch-clause-one g c = λ s r stands other.
 
 pub returns-in-Batch-clause-runs : goal.returns-in-Batch-clause-runs
 returns-in-Batch-clause-runs g c = λ asked is. absurd (let k : requests.Batch ≡ requests.One asked = sym c.in-Batch.ensures.asked ∙ is in cc)
+
+pub returns-in-Batch-clause-blames : goal.returns-in-Batch-clause-blames
+returns-in-Batch-clause-blames g c = λ asked is. absurd (let k : requests.Batch ≡ requests.One asked = sym c.in-Batch.ensures.asked ∙ is in cc)
 
 pub returns-in-One-clause-left : goal.returns-in-One-clause-left
 returns-in-One-clause-left g c = λ asked is.
@@ -123,7 +135,7 @@ returns-in-Gc-clause-collect g c = λ is.
     gc-runs g.S.X.BlockHash.block32 g.N.NameHash.name64 c.tell_end-in-Gc.result c.collect_rest-done.result
     (around (g.S.Store.seen c.args.store.now) (g.I.Source.left c.args.input.now) (g.I.Source.faults c.args.input.now) (g.O.Sink.holds c.args.output.now) (g.O.Sink.faults c.args.output.now) c.args.touches.now (host_side (g.W.Host.tree c.args.host.now) (g.W.Host.read_faults c.args.host.now) (g.W.Host.write_faults c.args.host.now)) (record { held = g.E.Sink.holds c.args.errors.now; faults = g.E.Sink.faults c.args.errors.now }))
     (around (g.S.Store.seen c.collect_rest-done.new.store) (g.I.Source.left c.args.input.now) (g.I.Source.faults c.args.input.now) (g.O.Sink.holds c.collect_rest-done.new.output) (g.O.Sink.faults c.collect_rest-done.new.output) c.collect_rest-done.new.touches (host_side (g.W.Host.tree c.args.host.now) (g.W.Host.read_faults c.args.host.now) (g.W.Host.write_faults c.args.host.now)) (record { held = g.E.Sink.holds c.tell_end-in-Gc.new.errors; faults = g.E.Sink.faults c.tell_end-in-Gc.new.errors }))
-    (record { size = g.met.S.X.BlockHash.size; are_bytes = g.met.S.X.BlockHash.are_bytes }) g.met.N.NameHash.fits c.collect_rest-done.ensures c.tell_end-in-Gc.ensures refl refl refl
+    (record { size = g.met.S.X.BlockHash.size; are_bytes = g.met.S.X.BlockHash.are_bytes }) g.met.N.NameHash.fits c.collect_rest-done.ensures.prints c.tell_end-in-Gc.ensures c.collect_rest-done.ensures.touches refl refl refl
 
 pub returns-in-Gc-clause-one : goal.returns-in-Gc-clause-one
 returns-in-Gc-clause-one g c = λ s r stands other.

@@ -1,28 +1,26 @@
-use Rattle.std.proofs.Common.{◌≡◌, false, List, ℕ, refl, subst, None}
+use Rattle.std.proofs.Common.{◌≡◌, false, List, ℕ, refl, subst}
 use Rattle.std.specs.List.{flat_map}
 use Rattle.std.specs.Prelude.{IfOk}
+use Rattle.std.proofs.lemmas.Result.{err_from_is_err_and}
 use Rattle.uf_cid.specs.declared.bytes.Memory.{Memory}
-use Rattle.uf_mfs.specs.Bad.{IsBadInTree}
 use Rattle.uf_plain.specs.Replies.{names_at}
 use Rattle.uf_command.specs.Lines.{name_line}
 use Rattle.uf_top.specs.Reply.{listed}
 use Rattle.uf_command.specs.declared.types.Ask.TheVariants.{Ls}
 use Rattle.uf_top.proofs.Asking.{is-looked, not-looked}
-use Rattle.uf_top.proofs.Shows.{tree-fault}
 use Rattle.uf_top.proofs.commands.files.names_at.Goals as goal
 
-pub refusal-requires : goal.refusal-requires
-refusal-requires g c = tree-fault (List (List ℕ)) g.S.X.BlockHash.block32 (IsBadInTree g.S.X.BlockHash.block32 g.N.NameHash.name64 None c.args.tree.now.root.cid) c.in-Err.fault (g.S.Store.seen c.args.store.now) (g.S.Store.seen c.names.new.store) c.in-Err.ensures.cause
-
-pub returns-in-Err : goal.returns-in-Err
-returns-in-Err g c =
+pub returns-in_err-map_err : goal.returns-in_err-map_err
+returns-in_err-map_err g c =
     let X = g.S.X.BlockHash.block32 in let N = g.N.NameHash.name64 in let names = c.args.path.now.names in
-    not-looked X N c.args.tree.now c.args.path.now (g.S.Store.seen c.args.store.now) (g.S.Store.seen c.names.new.store) (Ls false) (λ p. listed X N false p names) refl (λ p es. refl) c.args.touches.now c.names.new.touches (λ p es rows. c.in-Err.ensures.touches p es) (List (List ℕ)) c.in-Err.fault c.in-Err.ensures.touched (λ p t found. found ≡ names_at names t)
-    c.refusal.result c.refusal.ensures c.in-Err.ensures.answer c.in-Err.ensures.lost c.in-Err.ensures.cause c.in-Err.ensures.told
+    let e = c.names-found.ensures in let out = err_from_is_err_and c.from_residual.result c.from_residual.ensures.1 in
+    rw (out.1, out.2) (not-looked X N c.args.tree.now c.args.path.now (g.S.Store.seen c.args.store.now) (g.S.Store.seen c.names-found.new.store) (Ls false) (λ p. listed X N false p names) refl (λ p es. refl) c.args.touches.now c.names-found.new.touches (λ p es rows. e.touches p es) (List (List ℕ)) c.names-found.result e.touched (λ p t found. found ≡ names_at names t)
+    c.in_err-map_err.field-0.0 c.in_err-map_err.ensures.cases e.answer e.lost e.cause e.told)
 
-pub returns-in-Ok : goal.returns-in-Ok
-returns-in-Ok g c =
+pub returns : goal.returns
+returns g c =
     let X = g.S.X.BlockHash.block32 in let N = g.N.NameHash.name64 in let names = c.args.path.now.names in
-    is-looked X N c.args.tree.now c.args.path.now (g.S.Store.seen c.args.store.now) (g.S.Store.seen c.names.new.store) (Ls false) (λ p. listed X N false p names) refl (λ p es. refl) c.args.touches.now c.names.new.touches (λ p es rows. c.in-Ok.ensures.touches p es) c.in-Ok.ensures.touched (List (List ℕ)) Memory (λ p t found. found ≡ names_at names t)
-    c.in-Ok.names c.name_lines.result c.made.result c.in-Ok.ensures.answer c.in-Ok.ensures.lost
-    (λ p t at_tree h. subst (λ found. IfOk c.name_lines.result (λ x. x ≡ flat_map name_line found)) h c.name_lines.ensures) c.made.ensures c.in-Ok.ensures.cause c.in-Ok.ensures.told
+    let e = c.names-found.ensures in
+    is-looked X N c.args.tree.now c.args.path.now (g.S.Store.seen c.args.store.now) (g.S.Store.seen c.names-found.new.store) (Ls false) (λ p. listed X N false p names) refl (λ p es. refl) c.args.touches.now c.names-found.new.touches (λ p es rows. e.touches p es) (List (List ℕ)) Memory c.names-found.result e.touched (λ p t found. found ≡ names_at names t)
+    c.in_ok-map_err.field-0 c.in_ok-map_err.ensures.cases c.name_lines-2.result c.made.result e.answer e.lost
+    (λ p t at_tree h. subst (λ found. IfOk c.name_lines-2.result (λ x. x ≡ flat_map name_line found)) h c.name_lines-2.ensures) c.made.ensures e.cause e.told
