@@ -1,9 +1,10 @@
 //! Two stores compared.
-ghost use Rattle.std.specs.Prelude.{◌≡◌, ◌≢◌, ◌∷◌, [], Some, IfErr, IfOk, IfSome};
+ghost use Rattle.std.specs.Prelude.{◌≡◌, ◌≢◌, ◌∷◌, [], None, Some, IfErr, IfOk, IfSome};
 ghost use Rattle.uf_store.specs.Calls.{OnlyReads};
 ghost use Rattle.uf_store.specs.Contents.{Contents, held_at};
 ghost use Rattle.uf_store.specs.Faults.{NoneIsBad, Shown};
 ghost use Rattle.uf_walk.specs.Order.{goes};
+ghost use Rattle.uf_walk.specs.Walked.{course};
 ghost use Rattle.uf_same.specs.Comparing.{ComparesAt, IsClashOf, IsOfLoads, Judges, MissesNone, ShowsTwoBlocks};
 ghost use Rattle.uf_same.specs.Comparing.{StepsOn, left_fault, right_fault};
 ghost use Rattle.uf_same.specs.Verdict.{follow_both, verdict, verdict_of};
@@ -66,14 +67,33 @@ fn compare_from<A: Store, B: Store<X = A::X>, L: Ledger>(
 {
     let mut walk = Walk::new(alloc, most);
     walk.add_root(root)?;
+    compare_along(alloc, left, right, &mut walk, touches)
+}
+
+// Compares two stores along a walk, from its first CID on.
+fn compare_along<A: Store, B: Store<X = A::X>, L: Ledger>(
+    alloc: Global,
+    left: &mut A,
+    right: &mut B,
+    walk: &mut Walk,
+    touches: &mut Steps<L>,
+) -> Result<Compared, SameFault>
+    requires { walk.old.due ≡ None }
+    ensures verdict { (t u : Contents) → (A.seen left.old).told ≡ Some t → (B.seen right.old).told ≡ Some u
+        → Judges (verdict_of (held_at t) (held_at u) (course (follow_both (held_at t) (held_at u)) walk.old)) result }
+    ensures clash { IfOk result (ShowsTwoBlocks A.X.block32) }
+    ensures loads { IfErr result IsOfLoads }
+    ensures left { OnlyReads A.X.block32 NoneIsBad (left_fault result) (A.seen left.old) (A.seen left.new) }
+    ensures left_misses { MissesNone (left_fault result) (A.seen left.old) (A.seen left.new) }
+    ensures right { OnlyReads A.X.block32 NoneIsBad (right_fault result) (B.seen right.old) (B.seen right.new) }
+{
     loop {
         match walk.advance()? {
             Turn::End => return Ok(Compared::Equal),
             Turn::TooMany => return Err(SameFault::TooMany),
             Turn::At(cid) => {
-                match compare_at(alloc, left, right, &cid, &mut walk, touches)? {
-                    Some(clash) => return Ok(clash),
-                    None => {}
+                if let Some(clash) = compare_at(alloc, left, right, &cid, walk, touches)? {
+                    return Ok(clash);
                 }
             }
         }

@@ -1,35 +1,16 @@
-use Rattle.std.proofs.Common.{subst, sym, ap, ◌∙◌}
-use Rattle.std.proofs.lemmas.Result.{err_from_is_err_and}
+use native.Mathlib.Numerals.{unary_clauses}
+use Rattle.std.proofs.Common.{ℕ, [], ap, subst, ◌∙◌}
 use Rattle.uf_store.specs.Contents.{held_at}
-use Rattle.uf_store.proofs.Calls.{reads-reads}
-use Rattle.uf_same.specs.Comparing.{RefusesSame}
+use Rattle.uf_walk.specs.Order.{Whole}
+use Rattle.uf_walk.specs.Walked.{with_root}
+use Rattle.uf_same.specs.Comparing.{Judges}
 use Rattle.uf_same.specs.Verdict.{follow_both, verdict_of}
 use Rattle.uf_same.proofs.comparing.compare_from.Goals as goal
 
-pub returns-in_err-clash-in-At-clause-verdict : goal.returns-in_err-clash-in-At-clause-verdict
-returns-in_err-clash-in-At-clause-verdict g c = λ t u is ws.
-    let out = err_from_is_err_and c.from_residual-in_err-clash-in-At.result c.from_residual-in_err-clash-in-At.ensures.1 in
-    let inv = c.loop-walk.invariant in
-    let hands = rw c.in-At.is at c.in_ok-advance.ensures in
-    rw (out.1, out.2) (subst (λ x. RefusesSame (verdict_of (held_at t) (held_at u) x) c.in_err-clash-in-At.field-0.0) (hands.course (follow_both (held_at t) (held_at u)) ∙ inv.course t u is ws)
-    (c.in_err-clash-in-At.ensures.compares t u (inv.left.told ∙ is) (inv.right.told ∙ ws)))
-
-pub returns-in-Some-clause-verdict : goal.returns-in-Some-clause-verdict
-returns-in-Some-clause-verdict g c = λ t u is ws.
-    let inv = c.loop-walk.invariant in
-    let hands = rw c.in-At.is at c.in_ok-advance.ensures in
-    ap (verdict_of (held_at t) (held_at u)) (sym (hands.course (follow_both (held_at t) (held_at u)) ∙ inv.course t u is ws))
-    ∙ (rw c.in-Some.is at (c.in_ok-clash-in-At.ensures.compares t u (inv.left.told ∙ is) (inv.right.told ∙ ws)))
-
-pub loop-walk-preserved : goal.loop-walk-preserved
-loop-walk-preserved g c =
-    let inv = c.loop-walk.invariant in
-    let hands = rw c.in-At.is at c.in_ok-advance.ensures in
-    let took = rw c.in-None.is at c.in_ok-clash-in-At.ensures.steps in
-    record {
-      due = took.due;
-      course = λ t u is ws. (rw c.in-None.is at (c.in_ok-clash-in-At.ensures.compares t u (inv.left.told ∙ is) (inv.right.told ∙ ws))) ∙ hands.course (follow_both (held_at t) (held_at u)) ∙ inv.course t u is ws;
-      left = reads-reads inv.left c.in_ok-clash-in-At.ensures.left;
-      left_misses = c.in_ok-clash-in-At.ensures.left_misses ∙ inv.left_misses;
-      right = reads-reads inv.right c.in_ok-clash-in-At.ensures.right;
-    }
+pub returns-clause-verdict : goal.returns-clause-verdict
+returns-clause-verdict g c = λ t u is ws.
+    let f = follow_both (held_at t) (held_at u) in
+    let new = c.new-walk.ensures in
+    simp unary_clauses at (subst (λ x. Judges (verdict_of (held_at t) (held_at u) x) c.compare_along.result)
+    (c.in_ok-add_root.ensures.ok.course f ∙ ap (with_root f c.new-walk.result.most c.args.root.now) (new.course f) ∙ ap (λ (m : ℕ). with_root f m c.args.root.now (Whole [])) new.most)
+    (c.compare_along.ensures.verdict t u is ws))
