@@ -3,6 +3,7 @@ pub mod Along
 pub mod Answers
 pub mod Bad
 pub mod Below
+pub mod Checked
 pub mod Checking
 pub mod FileCids
 pub mod Gathered

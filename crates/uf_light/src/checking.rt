@@ -1,15 +1,8 @@
 //! Light proofs checked.
-ghost use Rattle.std.specs.Prelude.{◌≡◌, ◌<◌, ◌≤◌, ◌^◌, IfErr, IfOk, List, Some, ℕ, length, true};
-ghost use Rattle.uf_edge.specs.Counts.{Counts, Stood};
-ghost use Rattle.uf_car.specs.Exporting.{WritesAll, WritesSome};
-ghost use Rattle.uf_car.specs.Reading.{car_read};
-ghost use Rattle.uf_light.specs.Accepting.{IsProof};
-ghost use Rattle.uf_light.specs.Answers.{CountsSink, IsOwnFault, OpensAs, is_light_read, is_light_sink, opened};
-ghost use Rattle.uf_light.specs.Below.{IsAboveNames};
+ghost use Rattle.std.specs.Prelude.{◌≡◌, ◌<◌, ◌^◌, length};
+ghost use Rattle.uf_store.specs.InMemory.{memory_seen, new_seen};
+ghost use Rattle.uf_light.specs.Checked.{Checks};
 ghost use Rattle.uf_light.specs.Checking.{keeping_fault as fault_of_keeping, reading_fault as fault_of_reading};
-ghost use Rattle.uf_light.specs.Light.{absent_text};
-ghost use Rattle.uf_light.specs.Sections.{IsOkOrMemory, ShownBySections};
-ghost use Rattle.uf_light.specs.Along.{ChecksFirst, ChecksPath, ChecksPrefix};
 
 use crate::opening::open;
 use crate::sending::show;
@@ -33,56 +26,35 @@ pub fn check<X: BlockHash, N: NameHash, I: Source, O: Sink, L: Ledger>(
     touches: &mut Steps<L>,
 ) -> Result<u64, LightFault>
     requires { length asked.now.names < 2 ^ 32 }
-
-    // What the CAR says before its tree is looked at: two sections that clash, a fault of its form, another root.
-    ensures opens { (bytes : List ℕ) → I.left input.old ≡ Some bytes → Stood (I.faults input.old) (I.faults input.new)
-        → OpensAs (opened asked.now.root (car_read X.block32 limit bytes)) result }
-
-    // Whatever tree has this root: it is the tree's answer, or a block of the tree's plan and a section clash.
-    ensures tree { ChecksPath X.block32 N.name64 asked.now limit (I.left input.old) result (O.holds out.old)
-        (O.holds out.new) }
-
-    // The proof that `prove` writes of a tree with this root is accepted, where nothing fails meanwhile.
-    ensures accepts { (said bytes : List ℕ)
-        → IsProof X.block32 N.name64 asked.now.root asked.now.names asked.now.absent said bytes
-        → length bytes ≤ limit → I.left input.old ≡ Some bytes → Stood (I.faults input.old) (I.faults input.new)
-        → Stood (O.faults out.old) (O.faults out.new) → IsOkOrMemory result }
-
-    // Whatever fails, a prefix of the tree's answer was written and nothing else, unless two such blocks clash.
-    ensures prefix { ChecksPrefix X.block32 N.name64 asked.now limit (I.left input.old) (O.holds out.old)
-        (O.holds out.new) }
-    ensures some { WritesSome (O.holds out.old) (O.holds out.new) }
-
-    // All is read before anything is written: a refusal, and a block that is missing or bad, leaves the sink as it
-    // was.
-    ensures first { ChecksFirst X.block32 N.name64 asked.now limit (I.left input.old) result (O.holds out.old)
-        (O.holds out.new) }
-
-    // Whatever the root is of: with names below it, a section of its CID is there, whose block is canonical as the root
-    // of a directory, and each section of that CID has this block.
-    ensures root { (bytes : List ℕ) → I.left input.old ≡ Some bytes
-        → IfOk result (λ _. IsAboveNames X.block32 asked.now.root asked.now.names
-        (car_read X.block32 limit bytes).sections) }
-
-    // With `absent` the line was written and nothing else.
-    ensures line { asked.now.absent ≡ true
-        → IfOk result (λ n. WritesAll (absent_text asked.now.names) n (O.holds out.old) (O.holds out.new)) }
-
-    // Whatever the CAR has: each fault of the store that it is read into is shown by its sections.
-    ensures shown { (bytes : List ℕ) → I.left input.old ≡ Some bytes
-        → ShownBySections X.block32 N.name64 asked.now.root (car_read X.block32 limit bytes).sections result }
-    ensures own { IfErr result (IsOwnFault X.block32) }
-    ensures read { Counts (is_light_read result) (I.faults input.old) (I.faults input.new) }
-    ensures sent { CountsSink (is_light_sink result) (O.faults out.old) (O.faults out.new) }
+    ensures { Checks X.block32 N.name64 asked.now limit (I.left input.old) result (I.faults input.old)
+        (I.faults input.new) (O.holds out.old) (O.holds out.new) (O.faults out.old) (O.faults out.new) }
 {
     let mut store = MemStore::<X>::new(alloc);
-    match open(alloc, &mut store, &asked.root, input, limit, touches) {
+    check_in::<X, N, I, O, L>(alloc, &mut store, asked, input, limit, out, touches)
+}
+
+// The same, with an empty store for the CAR's blocks.
+fn check_in<X: BlockHash, N: NameHash, I: Source, O: Sink, L: Ledger>(
+    alloc: Global,
+    store: &mut MemStore<X>,
+    asked: &Asked,
+    input: &mut I,
+    limit: u64,
+    out: &mut O,
+    touches: &mut Steps<L>,
+) -> Result<u64, LightFault>
+    requires empty { memory_seen store.old ≡ new_seen }
+    requires few { length asked.now.names < 2 ^ 32 }
+    ensures { Checks X.block32 N.name64 asked.now limit (I.left input.old) result (I.faults input.old)
+        (I.faults input.new) (O.holds out.old) (O.holds out.new) (O.faults out.old) (O.faults out.new) }
+{
+    match open(alloc, store, &asked.root, input, limit, touches) {
         Err(fault) => Err(keeping_fault(fault)),
         Ok(()) => {
             let names = asked.names.as_slice();
             match show::<MemStore<X>, N, O, L>(
                 alloc,
-                &mut store,
+                store,
                 &asked.root,
                 names,
                 asked.absent,
