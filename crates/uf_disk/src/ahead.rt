@@ -1,11 +1,11 @@
 //! Blocks that are read before they are loaded.
-ghost use Rattle.std.specs.Prelude.{◌≡◌, ◌<◌, ◌≤◌, ◌+◌, ◌*◌, ℕ, [], IfSome, IsTrue, length, vec_len};
+ghost use Rattle.std.specs.Prelude.{◌≡◌, ◌<◌, ◌≤◌, ◌+◌, ◌*◌, ℕ, [], IfSome, OnOk, length, vec_len};
 ghost use Rattle.std.specs.Prelude.{slice_index, slice_index_or};
 ghost use Rattle.uf_cid.specs.Bytes.{block_in};
-ghost use Rattle.uf_disk.specs.Ahead.{IsWholeFor};
+ghost use Rattle.uf_disk.specs.Ahead.{IsInside, IsWholeFor, bytes_at};
 
 use crate::folder::{Folder, PADDING};
-use std::alloc::Global;
+use std::alloc::{AllocError, Global};
 use std::fs::Files;
 use std::marker::PhantomData;
 use std::random::RandomSource;
@@ -13,6 +13,9 @@ use uf_cid::{BlockHash, Cid, Codec};
 
 /// How many blocks are read ahead at most, which are hashed side by side.
 const GROUP: usize = 8;
+
+/// From how many on they are hashed side by side with empty ones: eight take as long as four by themselves.
+const MANY: usize = 5;
 
 /// How many bytes their pieces have at most: eight blocks of 1 MiB, and an eighth more.
 const MOST_AHEAD: usize = 9438272;
@@ -25,13 +28,14 @@ struct Pieces {
     size: usize,
     count: usize,
     ghost few: { count ≤ 8 },
-    ghost room: { (k : ℕ) → k < count → slice_index lengths k + 72 ≤ size },
+    ghost room: { (k : ℕ) → k < 8 → slice_index lengths k + 72 ≤ size },
     ghost short: { (k : ℕ) → k < count → slice_index lengths k ≤ 2097152 },
 }
 
 impl Pieces {
     // No blocks.
     fn new(size: usize) -> Self
+        requires { 72 ≤ size }
         ensures none { result.count ≡ 0 }
         ensures size { result.size ≡ size }
     {
@@ -60,14 +64,22 @@ impl Pieces {
     }
 }
 
-/// The bytes of the files of some blocks, one after another, and their digests.
+/// Where some bytes lie in a buffer.
+#[derive(Clone, Copy)]
+pub struct Span {
+    pub at: usize,
+    pub count: usize,
+}
+
+/// The bytes of the files of some blocks, and their digests. The buffer never gets shorter, so that few zeros are
+/// written to it: what stands behind a block in its piece, and behind the pieces, is of no account.
 #[derive(Drop)]
 pub struct Ahead<X: BlockHash> {
     hash: PhantomData<X>,
     pieces: Pieces,
     bytes: Vec<u8>,
     digests: [[u8; 32]; 8],
-    ghost inside: { length bytes.items ≡ pieces.count * pieces.size },
+    ghost inside: { pieces.count * pieces.size ≤ length bytes.items },
     ghost hashed: { (k : ℕ) → k < pieces.count
         → slice_index_or digests k [] ≡ X.block32 (block_in bytes.items pieces.size pieces.lengths k) },
 }
@@ -77,25 +89,31 @@ impl<X: BlockHash> Ahead<X> {
     pub fn new(alloc: Global) -> Self {
         Ahead {
             hash: PhantomData,
-            pieces: Pieces::new(0),
+            pieces: Pieces::new(PADDING),
             bytes: Vec::new(alloc),
             digests: [[0u8; 32]; 8],
         }
     }
 
-    /// Reads the files of the first of these blocks in the place of those that are here, but where the first one is
-    /// here. A file that is less than half as long as the first one's, or longer by more than an eighth, or one that
-    /// can't be read, is left out with those after it.
+    /// The bytes of a span of the buffer.
+    pub fn bytes_at(&self, span: Span) -> &[u8]
+        requires { IsInside span self.now.bytes.items }
+        ensures { result.now ≡ bytes_at span self.now.bytes.items }
+    {
+        &self.bytes[span.at..span.at + span.count]
+    }
+
+    /// Reads the files of the first of these blocks in the place of those that are here. A file that is less than half
+    /// as long as the first one's, or longer by more than an eighth, or one that can't be read, is left out with those
+    /// after it.
     pub fn read<R: Files + RandomSource>(&mut self, folder: &Folder<R>, cids: &[Cid]) {
         let Some(first) = cids.first() else {
             return;
         };
-        if self.place_of(first).is_some() {
-            return;
-        }
         let length = folder.length_of_block(first);
         let pieces = gather(folder, cids, length, &mut self.bytes);
-        self.digests = digests_in::<X>(&mut self.bytes, &pieces);
+        let lanes = lanes_for(&mut self.bytes, &pieces);
+        self.digests = digests_in::<X>(&mut self.bytes, &pieces, lanes);
         self.pieces = pieces;
     }
 
@@ -103,22 +121,19 @@ impl<X: BlockHash> Ahead<X> {
     pub fn forget(&mut self)
         ensures { self.new.pieces.count ≡ 0 }
     {
-        self.bytes.clear();
-        self.pieces = Pieces::new(0);
+        self.pieces = Pieces::new(PADDING);
     }
 
-    /// Copies a block that is here and has its CID's digest into a buffer: whether it did.
-    pub fn copy(&self, cid: &Cid, buffer: &mut Vec<u8>) -> bool
-        ensures { IsTrue result → IsWholeFor X.block32 cid.now buffer.new.items }
+    /// Where in the buffer a block lies that is here and has its CID's digest.
+    pub fn find(&self, cid: &Cid) -> Option<Span>
+        ensures inside { IfSome result (λ span. IsInside span self.now.bytes.items) }
+        ensures whole { IfSome result (λ span. IsWholeFor X.block32 cid.now (bytes_at span self.now.bytes.items)) }
     {
-        let Some(place) = self.place_of(cid) else {
-            return false;
-        };
-        let at = place * self.pieces.size;
-        buffer.clear();
-        buffer
-            .extend_from_slice(&self.bytes[at..at + self.pieces.lengths[place]])
-            .is_ok()
+        let place = self.place_of(cid)?;
+        Some(Span {
+            at: place * self.pieces.size,
+            count: self.pieces.lengths[place],
+        })
     }
 
     // The place of a block that has its CID's digest.
@@ -135,24 +150,56 @@ impl<X: BlockHash> Ahead<X> {
     }
 }
 
-// The digests of the blocks at the heads of these pieces.
-fn digests_in<X: BlockHash>(bytes: &mut [u8], pieces: &Pieces) -> [[u8; 32]; 8]
-    requires pieces { length bytes.old ≡ pieces.now.count * pieces.now.size }
+// How many pieces are to be hashed: all eight, for which there is room then, or those that have blocks.
+fn lanes_for(bytes: &mut Vec<u8>, pieces: &Pieces) -> usize
+    requires { pieces.now.count * pieces.now.size ≤ vec_len bytes.old }
+    ensures all { pieces.now.count ≤ result }
+    ensures most { result ≤ 8 }
+    ensures inside { result * pieces.now.size ≤ vec_len bytes.new }
+{
+    if pieces.count >= MANY
+        && pieces.size <= MOST_AHEAD / GROUP
+        && grow(bytes, GROUP * pieces.size).is_ok()
+    {
+        GROUP
+    } else {
+        pieces.count
+    }
+}
+
+// The digests of the blocks at the heads of n pieces, with which a buffer begins.
+fn digests_in<X: BlockHash>(bytes: &mut [u8], pieces: &Pieces, lanes: usize) -> [[u8; 32]; 8]
+    requires all { pieces.now.count ≤ lanes }
+    requires most { lanes ≤ 8 }
+    requires inside { lanes * pieces.now.size ≤ length bytes.old }
     ensures digests { (k : ℕ) → k < pieces.now.count
         → slice_index_or result k [] ≡ X.block32 (block_in bytes.new pieces.now.size pieces.now.lengths k) }
 {
     let mut digests = [[0u8; 32]; 8];
-    let lengths = &pieces.lengths[..pieces.count];
-    X::block32_apart(bytes, pieces.size, lengths, &mut digests[..pieces.count]);
+    let lengths = &pieces.lengths[..lanes];
+    let front = &mut bytes[..lanes * pieces.size];
+    X::block32_apart(front, pieces.size, lengths, &mut digests[..lanes]);
     digests
 }
 
 // How long the pieces of blocks are, of which the first one has this length: with room for an eighth more.
 fn size_of_piece(first: usize) -> usize
     requires { first ≤ 2097152 }
-    ensures { result ≤ 4194304 }
+    ensures least { 72 ≤ result }
+    ensures most { result ≤ 4194304 }
 {
     (first + first / 8 + PADDING).div_ceil(64) * 64
+}
+
+// Makes a buffer as long as this, unless it is longer.
+fn grow(bytes: &mut Vec<u8>, length: usize) -> Result<(), AllocError>
+    ensures ok { OnOk result (length ≤ vec_len bytes.new) }
+    ensures more { vec_len bytes.old ≤ vec_len bytes.new }
+{
+    if bytes.len() < length {
+        bytes.resize(length, 0)?;
+    }
+    Ok(())
 }
 
 // Reads the files of at most eight blocks, each to the head of a piece, as far as they are about as long as the first
@@ -164,16 +211,17 @@ fn gather<R: Files + RandomSource>(
     bytes: &mut Vec<u8>,
 ) -> Pieces
     requires { first ≤ 2097152 }
-    ensures { vec_len bytes.new ≡ result.count * result.size }
+    ensures { result.count * result.size ≤ vec_len bytes.new }
 {
-    bytes.clear();
     let size = size_of_piece(first);
     let mut pieces = Pieces::new(size);
     for at in 0..cids.len().min(GROUP) {
-        if bytes.len() + size > MOST_AHEAD {
+        let end = (at + 1) * size;
+        if end > MOST_AHEAD || grow(bytes, end).is_err() {
             break;
         }
-        let Some(count) = folder.append_block(&cids[at], first / 2, size, bytes) else {
+        let piece = &mut bytes[at * size..end];
+        let Some(count) = folder.read_piece(&cids[at], first / 2, piece) else {
             break;
         };
         pieces.push(&cids[at], count);

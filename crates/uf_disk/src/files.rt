@@ -1,5 +1,5 @@
 //! Whole files and folders of the machine.
-ghost use Rattle.std.specs.Prelude.{◌≡◌, ◌≤◌, ◌+◌, length, vec_len, IfOk, OnOk};
+ghost use Rattle.std.specs.Prelude.{◌≡◌, ◌≤◌, length, vec_len, IfOk, OnOk};
 
 use std::alloc::{AllocError, AllocFailed, Global};
 use std::fs::{Files, OpenFile, OpenOptions, ReadDir};
@@ -70,7 +70,7 @@ pub fn length_of<R: Files>(files: &R, path: &str) -> Result<Option<u64>, Trouble
     }
 }
 
-/// Reads n bytes of a file, in one read where the machine gives them at once.
+/// Reads n bytes of a file into a buffer that gets this length.
 pub fn read_file<R: Files>(
     files: &R,
     path: &str,
@@ -80,28 +80,13 @@ pub fn read_file<R: Files>(
     ensures { OnOk result (vec_len buffer.new ≡ length) }
 {
     buffer.resize(length, 0)?;
-    let mut file = fs::open(files, path)?;
-    file.read_exact(buffer.as_mut_slice())?;
-    Ok(())
+    fill_from(files, path, buffer.as_mut_slice())
 }
 
-/// Puts n bytes of a file at the head of a piece of `size` bytes after those of a buffer. Zeros follow them.
-pub fn append_from<R: Files>(
-    files: &R,
-    path: &str,
-    count: usize,
-    size: usize,
-    buffer: &mut Vec<u8>,
-) -> Result<(), Trouble>
-    requires inside { count ≤ size }
-    requires small { size ≤ 4194304 }
-    ensures ok { OnOk result (vec_len buffer.new ≡ vec_len buffer.old + size) }
-    ensures more { vec_len buffer.old ≤ vec_len buffer.new }
-{
-    let before = buffer.len();
-    buffer.resize(before + size, 0)?;
+/// Fills a piece with the first bytes of a file, by one read where the machine gives them at once.
+pub fn fill_from<R: Files>(files: &R, path: &str, piece: &mut [u8]) -> Result<(), Trouble> {
     let mut file = fs::open(files, path)?;
-    file.read_exact(&mut buffer[before..before + count])?;
+    file.read_exact(piece)?;
     Ok(())
 }
 

@@ -6,6 +6,7 @@ mod ahead;
 mod files;
 mod folder;
 mod host;
+mod lending;
 mod place;
 mod store;
 mod streams;

@@ -3,13 +3,12 @@ ghost use Rattle.std.specs.Prelude.{◌≡◌, ◌≤◌, ◌+◌, length, IfOk,
 ghost use Rattle.uf_store.specs.Contents.{Contents};
 ghost use Rattle.uf_store.specs.Seen.{Loads, Looks, ReadsNote, Saves, Syncs, Writes, WritesNote};
 
-use crate::ahead::Ahead;
 use crate::files::Trouble;
 use crate::folder::{Folder, Held};
+use crate::lending::Lending;
 use std::alloc::Global;
 use std::fs::Files;
 use std::marker::PhantomData;
-use std::mem;
 use std::random::RandomSource;
 use std::sync::ledger::Ledger;
 use uf_cid::{Block, BlockHash, Cid, Cids};
@@ -28,9 +27,8 @@ pub struct DiskStore<X: BlockHash, R> {
     hash: PhantomData<X>,
     folder: Folder<R>,
     alloc: Global,
-    lent: Vec<u8>,
+    lending: Lending<X>,
     read: Vec<u8>,
-    ahead: Ahead<X>,
     finds: u64,
     misses: u64,
     faults: u64,
@@ -49,9 +47,8 @@ impl<X: BlockHash, R> DiskStore<X, R> {
             hash: PhantomData,
             folder: Folder::new(alloc, runtime),
             alloc,
-            lent: Vec::new(alloc),
+            lending: Lending::new(alloc),
             read: Vec::new(alloc),
-            ahead: Ahead::new(alloc),
             finds: 0,
             misses: 0,
             faults: 0,
@@ -91,7 +88,7 @@ impl<X: BlockHash, R: Files + RandomSource> DiskStore<X, R> {
             Held::Nothing => self.folder.put_block(cid, bytes),
             Held::Bytes if self.read.as_slice() == bytes => self.folder.keep_block(cid),
             Held::Bytes if X::block32(&self.read) == cid.digest => {
-                mem::swap(&mut self.lent, &mut self.read);
+                self.lending.lend(&mut self.read);
                 self.clashes = self.clashes.saturating_add(1);
                 return Ok(Save::Clash);
             }
@@ -123,8 +120,7 @@ impl<X: BlockHash, R: Files + RandomSource> Store for DiskStore<X, R> {
 
     fn load<L: Ledger>(&mut self, cid: &Cid, touches: &mut Steps<L>) -> Load {
         touches.tick();
-        if self.ahead.copy(cid, &mut self.read) {
-            mem::swap(&mut self.lent, &mut self.read);
+        if self.lending.lend_ahead(cid) {
             self.finds = self.finds.saturating_add(1);
             return Load::Found;
         }
@@ -134,7 +130,7 @@ impl<X: BlockHash, R: Files + RandomSource> Store for DiskStore<X, R> {
                 Load::Missing
             }
             Ok(Held::Bytes) if X::block32(&self.read) == cid.digest => {
-                mem::swap(&mut self.lent, &mut self.read);
+                self.lending.lend(&mut self.read);
                 self.finds = self.finds.saturating_add(1);
                 Load::Found
             }
@@ -167,7 +163,7 @@ impl<X: BlockHash, R: Files + RandomSource> Store for DiskStore<X, R> {
     }
 
     fn block(&self) -> &[u8] {
-        self.lent.as_slice()
+        self.lending.block()
     }
 
     fn save<L: Ledger>(&mut self, cid: &Cid, bytes: &[u8], touches: &mut Steps<L>) -> Save {
@@ -205,14 +201,13 @@ impl<X: BlockHash, R: Files + RandomSource> Store for DiskStore<X, R> {
     }
 
     fn foresee(&mut self, cids: &[Cid]) {
-        self.ahead.read(&self.folder, cids);
+        self.lending.foresee(&self.folder, cids);
     }
 }
 
 impl<X: BlockHash, R: Files + RandomSource> Sweep for DiskStore<X, R> {
     fn sweep(&mut self, kept: &Cids) -> Swept {
-        self.lent.clear();
-        self.ahead.forget();
+        self.lending.forget();
         match self.folder.sweep(kept) {
             Ok(count) => Swept::Done(count),
             Err(Trouble::Failed) => {

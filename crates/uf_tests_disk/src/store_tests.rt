@@ -126,8 +126,9 @@ const FORESEES: [StoreCall; 13] = [
     StoreCall::Loads(b"a", Load::Found),
 ];
 
-// So are blocks of unlike lengths: one that is damaged before isn't found, and those that are damaged later are.
-const UNLIKE: [StoreCall; 19] = [
+// So are blocks of unlike lengths: one that is damaged before isn't found, and those that are damaged later are. The
+// one that is lent stays while others are foreseen.
+const UNLIKE: [StoreCall; 31] = [
     StoreCall::Saves(b"01234567", Save::Done),
     StoreCall::Saves(b"012345678", Save::Done),
     StoreCall::Saves(b"0123456789", Save::Done),
@@ -155,6 +156,24 @@ const UNLIKE: [StoreCall; 19] = [
     StoreCall::Loads(b"012345678", Load::Found),
     StoreCall::Loads(b"0123456789abcde", Load::Found),
     StoreCall::Lends(b"0123456789abcde"),
+    StoreCall::Foresees(&[b"a", b"b"]),
+    StoreCall::Lends(b"0123456789abcde"),
+    StoreCall::Foresees(&[b"0123456789a", b"0123456789ab"]),
+    StoreCall::Lends(b"0123456789abcde"),
+    StoreCall::Loads(b"0123456789ab", Load::Found),
+    StoreCall::Lends(b"0123456789ab"),
+    StoreCall::Foresees(&[
+        b"012345678",
+        b"0123456789a",
+        b"0123456789abc",
+        b"0123456789abcd",
+        b"0123456789ab",
+    ]),
+    StoreCall::Lends(b"0123456789ab"),
+    StoreCall::Damages(b"0123456789ab", b"x"),
+    StoreCall::Loads(b"0123456789ab", Load::Found),
+    StoreCall::Loads(b"012345678", Load::Found),
+    StoreCall::Lends(b"012345678"),
     StoreCall::Sweeps(&[b"a", b"b"], Swept::Done(8)),
 ];
 

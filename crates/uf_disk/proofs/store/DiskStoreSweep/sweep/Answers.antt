@@ -4,5 +4,5 @@ use Rattle.uf_disk.proofs.store.DiskStoreSweep.sweep.Goals as goal
 
 pub returns-in-Err-Failed : goal.returns-in-Err-Failed
 returns-in-Err-Failed g c = record {
-  swept = fails-to-drop c.args.kept.now _ _ refl refl c.clear.ensures.items refl refl refl c.saturating_add-self.ensures (grind (arith, rules));
+  swept = fails-to-drop c.args.kept.now _ _ refl refl c.forget.ensures refl refl refl c.saturating_add-self.ensures (grind (arith, rules));
 }
