@@ -13,7 +13,7 @@ use Rattle.uf_tree.specs.Standing.{Standing, NoHead, BadHead, Stands}
 use Rattle.uf_tree.specs.Tree.{Entries}
 use Rattle.uf_tree.specs.declared.profile.Profile.{Profile}
 use Rattle.uf_command.specs.Commands.{of_command}
-use Rattle.uf_command.specs.Natures.{needs_standing}
+use Rattle.uf_command.specs.Natures.{needs_standing, pin_writes}
 use Rattle.uf_command.specs.Statuses.{ends_batch, mark}
 use Rattle.uf_command.specs.declared.status.Status.{Status}
 use Rattle.uf_command.specs.declared.status.Status.TheVariants as status
@@ -32,7 +32,8 @@ use Rattle.uf_headline.proofs.BatchCounts.{ends-counted, fails-first, fails-last
 use Rattle.uf_top.proofs.Counted.{but-errors, rose-not-stood, with_sinks}
 use Rattle.uf_headline.proofs.LineHosts.{Suits, asks-suits}
 use Rattle.uf_top.proofs.Losing.{named-of}
-use Rattle.uf_top.proofs.Pins.{noted-pins, pins-good, pins-head}
+use Rattle.uf_top.proofs.Pins.{noted-pins, pins-head}
+use Rattle.uf_top.proofs.Wrote.{shape-good}
 use Rattle.uf_headline.proofs.Ran.{line-ran}
 use Rattle.uf_top.proofs.Standings.{stands-kept}
 
@@ -118,7 +119,7 @@ module _ (X : List ℕ → List ℕ) (N : List ℕ → ℕ) where
     stands-now (Ok (Same cid)) suits writes same stands now = untouched writes (same refl) stands
     stands-now (Ok (Adopt source dest)) suits writes same stands now = now
     stands-now (Ok (Gen n seed)) suits writes same stands now = untouched writes (same refl) stands
-    stands-now (Ok (Pin ask)) suits writes same stands now = subst (TellsAs X N b) (sym (same refl)) (stands-kept X N a b s (pins-good X ask done a b writes) (pins-head X ask done a b writes) stands)
+    stands-now (Ok (Pin ask)) suits writes same stands now = subst (TellsAs X N b) (sym (same refl)) (stands-kept X N a b s (shape-good X (pin_writes ask) done a b writes) (pins-head X ask done a b writes) stands)
 
   -- ---- a line
 

@@ -1,5 +1,5 @@
 -- What a stop during a batch leaves.
-use Rattle.std.proofs.Common.{◌≡◌, ◌∙◌, ℕ, ◌≤◌, ◌<◌, ◌^◌, List, [], ◌∷◌, ◌++◌, Bool, true, false, arith, refl, sym, ap, subst, inl, inr, append_assoc, append-nil, Option, None, Some, Result, Ok, Err}
+use Rattle.std.proofs.Common.{◌≡◌, ◌∙◌, ℕ, ◌≤◌, ◌<◌, ◌^◌, List, [], ◌∷◌, ◌++◌, true, false, arith, refl, sym, ap, subst, inl, inr, append_assoc, append-nil, Option, None, Some, Result, Ok, Err}
 use Rattle.std.proofs.lemmas.Bool.{cases_lt}
 use Rattle.std.specs.Prelude.{◌⊎◌}
 use Rattle.uf_cid.specs.Blocks.{Held, Lookup}
@@ -9,26 +9,22 @@ use Rattle.uf_edge.specs.Host.{HostTree}
 use Rattle.uf_host.specs.HostTree.{tree_on_host}
 use Rattle.uf_host.specs.declared.fault.HostFault.{HostFault}
 use Rattle.uf_mfs.specs.Reading.{CanRise}
-use Rattle.uf_mfs.specs.Standing.{Commits, Idle, LeavesHead, OnlySynced, Same as StaysSame, SavesThen, TellsAs, Written, head_in}
+use Rattle.uf_mfs.specs.Standing.{TellsAs, head_in}
 use Rattle.uf_plain.specs.Edits.{at}
 use Rattle.uf_plain.specs.Files.{read}
 use Rattle.uf_plain.specs.Replies.{stat_of}
 use Rattle.uf_plain.specs.declared.rule.Refused.{Refused}
 use Rattle.uf_plain.specs.declared.rule.Rule.{Rule}
 use Rattle.uf_store.specs.Calls.{Calm}
-use Rattle.uf_store.specs.Contents.{Contents, Told, changed, with_sync}
-use Rattle.uf_store.specs.Writing.{IsAny, WritesOnly}
-use Rattle.uf_store.specs.declared.store.Note.TheVariants.{Head}
+use Rattle.uf_store.specs.Contents.{Contents, Told}
 use Rattle.uf_store.specs.declared.store.Write.{Write}
-use Rattle.uf_store.proofs.Writing.{WritesOnly-noted, WritesOnly-synced, Wrote-same, Wrote-trans, saves-write}
-use Rattle.uf_tree.specs.Heads.{head_text}
 use Rattle.uf_tree.specs.Standing.{Standing, Stands}
 use Rattle.uf_tree.specs.Tree.{Tree, Dir, Entries}
 use Rattle.uf_tree.specs.TreePlan.{blocks}
 use Rattle.uf_tree.specs.Validity.{IsHash}
 use Rattle.uf_tree.specs.declared.profile.Profile.{Profile}
 use Rattle.uf_command.specs.Commands.{of_command}
-use Rattle.uf_command.specs.Natures.{WriteShape, MakesHead, MovesHead, NoWrites, NotesPins, SyncsBlocks, SyncsPins, command_writes, prints_after}
+use Rattle.uf_command.specs.Natures.{prints_after}
 use Rattle.uf_command.specs.Lines.{stat_text}
 use Rattle.uf_command.specs.Statuses.{ends_batch}
 use Rattle.uf_command.specs.declared.status.Status.{Status}
@@ -51,15 +47,15 @@ use Rattle.uf_top.specs.Naming.{TellsBlocks}
 use Rattle.uf_top.specs.Outcomes.{EachOutcome, EachStop, IsSafeFor, LeavesEither, LeavesTree}
 use Rattle.uf_top.specs.Reply.{added_spot, adopted, grown, host_tree, hosted, listed, looked, moved, placed, reply_to, settled, tree_reply}
 use Rattle.uf_edits.specs.Edits.{edited_by}
-use Rattle.uf_top.specs.Shapes.{HeadAfter, WritesAs, WritesFor, is_done}
+use Rattle.uf_top.specs.Shapes.{WritesFor, is_done}
 use Rattle.uf_headline.proofs.BatchHeads.{first-of, head-or, last-of, more-of}
 use Rattle.uf_headline.proofs.BatchReplies.{finds-of, held-of, host-same, next-same, outside-of, quiet-of, stands-next}
 use Rattle.uf_headline.proofs.Firm.{added-is, cut, firm-leaves, safe-firm}
 use Rattle.uf_headline.proofs.LineHosts.{Suits, asks-suits}
-use Rattle.uf_top.proofs.Pins.{noted-pins, notes-wrote, syncs-wrote}
+use Rattle.uf_top.proofs.Pins.{noted-pins}
 use Rattle.uf_headline.proofs.Ran.{line-ran}
-use Rattle.uf_top.proofs.Shaped.{head-after}
 use Rattle.uf_top.proofs.Standings.{stands-kept}
+use Rattle.uf_top.proofs.Wrote.{words-wrote}
 use Rattle.uf_headline.proofs.Stopped.{words-end}
 use Rattle.uf_top.proofs.Counted.{but-errors, with_sinks}
 
@@ -87,42 +83,6 @@ rise-later i j later stood = omega (arith, later, stood)
 rise-wrote : (i j : ℕ) → StandsOrRose i j → Stood i j → CanRise j
 rise-wrote i j (inl e) stood = omega (arith, e, stood)
 rise-wrote i j (inr r) stood = absurd (omega (arith, r, stood))
-
--- ---- what is written is appended
-
-module _ (X : List ℕ → List ℕ) where
-  leaves-wrote : (a b : Told) → LeavesHead a b → WritesOnly X a b
-  leaves-wrote a b (StaysSame same) = Wrote-same X IsAny a b same
-  leaves-wrote a b (OnlySynced same) = WritesOnly-synced X a b same
-
-  commits-wrote : (p : Profile) (root : Cid) (a b : Told) → Commits p root a b → WritesOnly X a b
-  commits-wrote p root a b (Idle head same) = Wrote-same X IsAny a b same
-  commits-wrote p root a b (Written head same) =
-      Wrote-trans X IsAny a (changed with_sync a) b (WritesOnly-synced X a (changed with_sync a) refl) (WritesOnly-noted X Head (head_text p root) (changed with_sync a) b same)
-
-  then-wrote : (Last : Told → Told → Type 0) (a b : Told) → ((m : Told) → Last m b → WritesOnly X m b) → SavesThen X Last a b → WritesOnly X a b
-  then-wrote Last a b last h = Wrote-trans X IsAny a h.between b (saves-write X a h.between h.saves) (last h.between h.last)
-
-  head-wrote : (a b : Told) → HeadAfter X a b → WritesOnly X a b
-  head-wrote a b h = then-wrote (Commits h.0 h.1) a b (λ m last. commits-wrote h.0 h.1 m b last) h.2
-
-  left-wrote : (a b : Told) → SavesThen X LeavesHead a b → WritesOnly X a b
-  left-wrote a b h = then-wrote LeavesHead a b (λ m last. leaves-wrote m b last) h
-
-  shape-wrote : (shape : WriteShape) (done : Bool) (a b : Told) → WritesAs X shape done a b → WritesOnly X a b
-  shape-wrote NoWrites done a b h = Wrote-same X IsAny a b h
-  shape-wrote SyncsBlocks true a b h = then-wrote (λ m now. now ≡ changed with_sync m) a b (λ m last. WritesOnly-synced X m b last) h
-  shape-wrote SyncsBlocks false a b h = left-wrote a b h
-  shape-wrote MakesHead true a b h = head-wrote a b h.1
-  shape-wrote MakesHead false a b h = left-wrote a b h
-  shape-wrote MovesHead true a b h = head-wrote a b (head-after X a b h)
-  shape-wrote MovesHead false a b h = left-wrote a b h
-  shape-wrote SyncsPins done a b h = syncs-wrote X done a b h
-  shape-wrote NotesPins done a b h = notes-wrote X done a b h
-
-  words-wrote : (asked : Result Command Refusal) (done : Bool) (a b : Told) → WritesFor X asked done a b → WritesOnly X a b
-  words-wrote (Ok command) done a b h = shape-wrote (command_writes command) done a b h
-  words-wrote (Err why) done a b h = Wrote-same X IsAny a b h
 
 -- ---- the tree after a reply
 

@@ -30,7 +30,6 @@ use Rattle.uf_command.specs.declared.types.HostRule.TheVariants as rules
 use Rattle.uf_command.specs.declared.types.Refusal.{Refusal}
 use Rattle.uf_command.specs.declared.types.Refusal.TheVariants as refusal
 use Rattle.uf_store.specs.Contents.{Told}
-use Rattle.uf_store.specs.declared.store.StoreFault.{StoreFault}
 use Rattle.uf_store.specs.declared.store.StoreFault.TheVariants as fault
 use Rattle.uf_top.specs.HostTexts.{host_text}
 use Rattle.uf_top.specs.Reply.{Outside, added_name, added_spot, adopted, by_rule, good_name, grafted, grown, host_tree, input_reply, input_row, input_tree, most_input, moved, placed, reply_to, settled, unchanged, with_plan, world_of}

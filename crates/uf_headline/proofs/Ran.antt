@@ -35,6 +35,7 @@ use Rattle.uf_top.specs.Shapes.{WritesFor, is_done}
 use Rattle.uf_top.proofs.Counted.{none-same}
 use Rattle.uf_top.proofs.Losing.{names-same}
 use Rattle.uf_top.proofs.Standings.{tells-none}
+use Rattle.uf_top.proofs.Wrote.{words-good}
 
 -- words are refused for no failed write
 unwritten : (why : Refusal) → word_kinds (refusal_kind why) ≡ true → status_of why ≡ status.WriteFault → ⊥
@@ -95,7 +96,7 @@ module _ (X : List ℕ → List ℕ) (N : List ℕ → ℕ) where
     faults = r.faults;
     prefix = r.printed.prefix;
     writes = r.left.writes;
-    good = r.left.good;
+    good = words-good X (Ok command) (is_done given) a.store.told b.store.told r.left.writes;
     head = r.left.head;
     host = r.left.host;
     pins = r.left.pins;

@@ -1,13 +1,13 @@
 -- A copy from a DAG into the tree that the Head names, from its opening to its commit.
 use Rattle.std.proofs.Common.{◌≡◌, ◌≢◌, ◌⊎◌, ℕ, ◌≤◌, List, [], arith, true, false, refl, sym, ap, subst, ◌∙◌, inl, inr, Option, Some, None, Result, Ok, Err}
-use Rattle.std.specs.Prelude.{IsErr}
+use Rattle.std.specs.Prelude.{IfErr, IsErr, OnErr, OnOk}
 use Rattle.uf_cid.specs.Blocks.{Lookup}
 use Rattle.uf_edge.specs.Counts.{Counts, Stood}
 use Rattle.uf_edge.specs.Host.{HostTold}
 use Rattle.uf_edge.specs.Streams as streams
-use Rattle.uf_mfs.specs.Answers.{ShownInTree, ShownOpening}
+use Rattle.uf_mfs.specs.Answers.{ShownInTree}
 use Rattle.uf_mfs.specs.Bad.{IsBadInHead, IsBadInTree}
-use Rattle.uf_mfs.specs.Standing.{Commits, IsWanting, LeavesHead, NamesOver, Opens, OpensOver, ReadsHead, Same, StandsAfter, StandsOver, TellsAs, TellsHeld, head_in}
+use Rattle.uf_mfs.specs.Standing.{Commits, IsWanting, LeavesHead, NamesOver, Same, StandsAfter, StandsOver, TellsAs, TellsHeld, head_in}
 use Rattle.uf_mfs.specs.Steps.{IsFolderOver, tree_fault}
 use Rattle.uf_mfs.specs.Touches.{CountsUp}
 use Rattle.uf_mfs.specs.declared.fault.MfsFault.{MfsFault}
@@ -29,7 +29,7 @@ use Rattle.uf_store.specs.declared.store.StoreFault.{StoreFault}
 use Rattle.uf_store.specs.declared.store.StoreFault.TheVariants as fault
 use Rattle.uf_store.proofs.Calls.{shown-after, shown-by, shown-rises, stood-back, stood-front}
 use Rattle.uf_store.proofs.Causes.{StaysCalm-trans, calm-rises}
-use Rattle.uf_store.proofs.Keeping.{KeepsGood-same, KeepsGood-trans}
+use Rattle.uf_store.proofs.Keeping.{KeepsGood-trans}
 use Rattle.uf_store.proofs.Writing.{SavesOnly-refl}
 use Rattle.uf_tree.specs.Standing.{Standing, NoHead, BadHead, Stands}
 use Rattle.uf_tree.specs.Tree.{Dir, Entries}
@@ -39,27 +39,28 @@ use Rattle.uf_command.specs.Dags.{adopted_name, tree_at}
 use Rattle.uf_command.specs.Natures.{MovesHead}
 use Rattle.uf_command.specs.Kinds.{adopt_kinds, OfWrite, fault_behind, may_close, refusal_fault, refusal_kind}
 use Rattle.uf_top.specs.Reply.{Outside, World, adopt_reply, adopted, grown, in_world, moved, outside_of, reply, world_of}
-use Rattle.uf_command.specs.declared.types.Ask.TheVariants.{Ls}
-use Rattle.uf_command.specs.declared.types.Command.TheVariants.{Adopt, At}
+use Rattle.uf_command.specs.declared.types.Command.TheVariants.{Adopt}
 use Rattle.uf_command.specs.declared.types.Refusal.{Refusal}
 use Rattle.uf_command.specs.declared.types.Refusal.TheVariants as refusal
 use Rattle.uf_top.specs.Answering.{Answers, DoesAnswer}
 use Rattle.uf_top.specs.Around.{HostSide, RisesFor, SinkSide, around}
-use Rattle.uf_top.specs.Causes.{IsBadIn, IsReadyBy, RefusesInTree, RefusesOpening, is_read}
+use Rattle.uf_top.specs.Causes.{IsBadIn, IsReadyBy, RefusesInTree, is_read}
 use Rattle.uf_top.specs.Endings.{EndsBy}
 use Rattle.uf_top.specs.Grafts.{GraftsIn, IsLostBy, LeavesUnplaced, PutsTree, SavesAdopted, TouchesUp, graft_kinds}
 use Rattle.uf_top.specs.Saving.{KeepsAdopted, SavesNoOther, adopted_blocks}
 use Rattle.uf_top.specs.Losing.{AnswersOver, DoesOver, placing_needs}
 use Rattle.uf_top.specs.Naming.{NamesAfter, StandsNamed, StaysNamed, TellsBlocks}
+use Rattle.uf_top.specs.Opening.{IsUnopened, OpensTree}
 use Rattle.uf_top.specs.Shapes.{HeadBy, WritesAs}
 use Rattle.uf_top.specs.Working.{Does}
 use Rattle.uf_top.proofs.Putting.{ok-value}
-use Rattle.uf_top.proofs.InTree.{not-opened, opening-ready, tree-wants}
+use Rattle.uf_top.proofs.InTree.{not-opened, tree-wants}
 use Rattle.uf_top.proofs.Losing.{commits-agrees, leaves-agrees, move-over, named-of, named-between, named-from, names-kept, names-same, opening-over}
 use Rattle.uf_top.proofs.Printing.{after-nothing, nothing-printed, quiet-of, rises-still}
+use Rattle.uf_top.proofs.Refusing.{IsRefusedAs, by-unopened}
 use Rattle.uf_top.proofs.Saved.{can-rise-later, no-other-commits, no-other-leaves, no-other-same, no-other-trans, still-stood}
 use Rattle.uf_top.proofs.Shaped.{profile-said}
-use Rattle.uf_top.proofs.Shows.{Shown-opening, Shown-tree, bad-of-head, bad-of-none, counts-still, opening-touched, tree-touched}
+use Rattle.uf_top.proofs.Shows.{Shown-tree, bad-of-head, bad-of-none, counts-still, tree-touched}
 use Rattle.uf_top.proofs.Standings.{stands-same, tells-none}
 use Rattle.uf_top.proofs.Unready.{not-unready}
 
@@ -132,11 +133,8 @@ module _ (source : DagPath) (dest : Path) (told : Told) (l m : streams.Told) (i 
   grafting-of (refusal.Store f) h = grafting-store f
 
   -- the same of a tree that isn't opened
-  grafting-opening : (f : MfsFault) (why : Refusal) → RefusesOpening f why → IsGrafting source dest told l m i why
-  grafting-opening (mfs.Rule rule) why is = absurd is
-  grafting-opening (mfs.Ready reason) why is = subst (IsGrafting source dest told l m i) (sym is) (record { other = λ e. cc; ends = refl; reads = counts-still i })
-  grafting-opening mfs.Sink why is = absurd is
-  grafting-opening (mfs.Store f) why is = subst (IsGrafting source dest told l m i) (sym is) (grafting-store f)
+  grafting-unopened : (why : Refusal) → IsUnopened told why → IsGrafting source dest told l m i why
+  grafting-unopened why = by-unopened (IsGrafting source dest told l m i) told why (λ reason head. record { other = λ e. cc; ends = refl; reads = counts-still i }) grafting-store
 
 graft-ready : (told : Told) (source : DagPath) (dest : Path) (why : Refusal) → graft_kinds (refusal_kind why) ≡ true → IsReadyBy told (Adopt source dest) why
 graft-ready told source dest (refusal.Rule r) h = tt
@@ -153,22 +151,6 @@ graft-ready told source dest (refusal.Ready r) h = absurd cc
 graft-ready told source dest refusal.Read h = tt
 graft-ready told source dest refusal.Write h = tt
 graft-ready told source dest (refusal.Store f) h = tt
-
-same-ready : (told : Told) (source : DagPath) (dest : Path) (why : Refusal) → IsReadyBy told (At (Ls false) dest) why → IsReadyBy told (Adopt source dest) why
-same-ready told source dest (refusal.Rule r) h = tt
-same-ready told source dest (refusal.Dag r) h = tt
-same-ready told source dest (refusal.BadPath p) h = tt
-same-ready told source dest (refusal.Host r) h = tt
-same-ready told source dest (refusal.Car number place) h = tt
-same-ready told source dest (refusal.CarLacks cid) h = tt
-same-ready told source dest (refusal.OwnClash cid first second) h = tt
-same-ready told source dest refusal.InputTooLong h = tt
-same-ready told source dest refusal.BadPins h = tt
-same-ready told source dest refusal.Usage h = tt
-same-ready told source dest (refusal.Ready r) h = h
-same-ready told source dest refusal.Read h = tt
-same-ready told source dest refusal.Write h = tt
-same-ready told source dest (refusal.Store f) h = tt
 
 -- ---- the tree in memory, and then its commit
 
@@ -226,7 +208,7 @@ module _ (X : List ℕ → List ℕ) (N : List ℕ → ℕ) (tree new : Mfs) (so
     }
 
     -- the commit is refused
-    pub graft-uncommitted : (f : MfsFault) (w : Refusal) → RefusesInTree f w → (Stood m.faults b.faults → IsWanting f) → LeavesHead m.told b.told → ShownInTree X NoneIsBad {A = Unit {0}} (Err f) m b
+    graft-uncommitted : (f : MfsFault) (w : Refusal) → RefusesInTree f w → (Stood m.faults b.faults → IsWanting f) → LeavesHead m.told b.told → ShownInTree X NoneIsBad {A = Unit {0}} (Err f) m b
         → (t0 t1 t2 : ℕ) → TouchesUp {A = Unit {0}} (Ok tt) t0 t1 → CountsUp (tree_fault {A = Unit {0}} (Err f)) t1 t2 → GraftsIn X N tree source dest (Err w) a b t0 t2
     graft-uncommitted f w is wanting leaves cause t0 t1 t2 up later_up =
         let shown = Shown-tree (Unit {0}) X NoneIsBad (IsBadInTree X N (Some tree.profile) tree.root.cid) (λ role bytes bad. absurd bad) f w m b is cause in
@@ -250,7 +232,7 @@ module _ (X : List ℕ → List ℕ) (N : List ℕ → ℕ) (tree new : Mfs) (so
         }
 
     -- it is committed
-    pub graft-committed : new.profile ≡ tree.profile → Commits new.profile new.root.cid m.told b.told → StaysCalm m b → (t0 t2 : ℕ) → GraftsIn X N tree source dest (Ok tt) a b t0 t2
+    graft-committed : new.profile ≡ tree.profile → Commits new.profile new.root.cid m.told b.told → StaysCalm m b → (t0 t2 : ℕ) → GraftsIn X N tree source dest (Ok tt) a b t0 t2
     graft-committed same commits later t0 t2 = record {
       lost = λ p es held given over named tells calm.
           let rises = calm-rises m b later in
@@ -275,6 +257,13 @@ module _ (X : List ℕ → List ℕ) (N : List ℕ → ℕ) (tree new : Mfs) (so
             → DoesOver X N a.told b.told p es (placing_needs X N dest (Some (adopted_name source)) p es) (grown X N p es (Ok fs)) (Ok tt) given given
         done p es fs given (inl x) = absurd (let e = x.ends_are in cc)
         done p es fs given (inr x) = inr (record { ends = (refl, after-nothing given); stands = x.stands })
+
+    -- and so it ends
+    pub graft-ended : (r : Result (Unit {0}) MfsFault) (given : Result (Unit {0}) Refusal) → IsRefusedAs RefusesInTree r given → new.profile ≡ tree.profile → (Stood m.faults b.faults → IfErr r IsWanting) → OnOk r (Commits new.profile new.root.cid m.told b.told)
+        → OnErr r (LeavesHead m.told b.told) → ShownInTree X NoneIsBad r m b → (t0 t1 t2 : ℕ) → TouchesUp {A = Unit {0}} (Ok tt) t0 t1 → CountsUp (tree_fault r) t1 t2 → GraftsIn X N tree source dest given a b t0 t2
+    graft-ended (Ok done) given is same wanting commits leaves later t0 t1 t2 up later_up = subst (λ (r : Result (Unit {0}) Refusal). GraftsIn X N tree source dest r a b t0 t2) (sym is) (graft-committed same commits later t0 t2)
+    graft-ended (Err f) (Ok done) is same wanting commits leaves cause t0 t1 t2 up later_up = absurd is
+    graft-ended (Err f) (Err w) is same wanting commits leaves cause t0 t1 t2 up later_up = graft-uncommitted f w is wanting leaves cause t0 t1 t2 up later_up
 
 -- ---- from what some blocks may be lost of to what holds all of them
 
@@ -315,25 +304,24 @@ module _ (X : List ℕ → List ℕ) (N : List ℕ → ℕ) where
 
   -- ---- how it is done
 
-  module _ (source : DagPath) (dest : Path) (a m : Seen) (told : m.told ≡ a.told) (l : streams.Told) (i : ℕ) (h : streams.Told) (w t0 : ℕ) (side : HostSide) (er er2 : SinkSide) where
+  module _ (source : DagPath) (dest : Path) (a m : Seen) (l : streams.Told) (i : ℕ) (h : streams.Told) (w t0 t1 : ℕ) (side : HostSide) (er er2 : SinkSide) where
     -- the tree isn't opened
-    pub graft-unopened : (t1 : ℕ) (f : MfsFault) (why : Refusal) → RefusesOpening f why → ((s : Standing) → TellsAs X N a.told s → Stood a.faults m.faults → Opens X N m.told s (Err f))
-        → ((p : Profile) (es : Entries) → NamesOver X N a.told p es → Stood a.faults m.faults → OpensOver X N a.told p es (Err f))
-        → ReadsHead a.told (Err f) → ShownOpening X (IsBadInHead X N a.told) {A = Mfs} (Err f) a m → CountsUp (tree_fault {A = Mfs} (Err f)) t0 t1 → Does X N (Adopt source dest) (Err why) (around a l i h w t0 side er) (around m l i h w t1 side er2)
-    graft-unopened t1 f why is opens lost head cause up =
-        let plain = grafting-opening source dest a.told l l i f why is in
+    pub graft-unopened : (why : Refusal) → OpensTree X N (Err why) a m t0 t1 → Does X N (Adopt source dest) (Err why) (around a l i h w t0 side er) (around m l i h w t1 side er2)
+    graft-unopened why o =
+        let told = o.reads.told in
+        let plain = grafting-unopened source dest a.told l l i why o.refused in
         let quiet = quiet-of (λ (text : List ℕ). text ≡ []) false why plain.other in
         record {
           answers = λ world finds input quiet2. answered world
-              (not-opened X N world.standing (adopt_reply X N world.held source dest) f why m.told is (opens world.standing finds.stands quiet2.store.faults) (stands-same X N a.told m.told world.standing told finds.stands));
+              (not-opened X N world.standing (adopt_reply X N world.held source dest) why m.told (o.opens world.standing finds.stands quiet2.store.faults) (stands-same X N a.told m.told world.standing told finds.stands));
           lost = λ p es rows held bytes named tells heights input quiet2. over p es held bytes
-              (opening-over X N a.told m.told p es (put_needs X N p (put_names dest (Some (adopted_name source))) (Dir es)) (adopt_reply X N held source dest p es) f why is (lost p es named.names quiet2.store.faults) (names-same X N a.told m.told p es told named));
+              (opening-over X N a.told m.told p es (put_needs X N p (put_names dest (Some (adopted_name source))) (Dir es)) (adopt_reply X N held source dest p es) why (o.lost p es named.names quiet2.store.faults) (names-same X N a.told m.told p es told named));
           unprinted = λ world after. absurd cc;
           unprinted_over = λ p es held outside after. absurd cc;
           prefix = λ world finds input room. nothing-printed (reply X N (Adopt source dest) world).ends h h refl;
           prints = quiet.prints h h refl;
           kinds = plain.ends;
-          ready = same-ready a.told source dest why (opening-ready a.told (Ls false) dest f why is head);
+          ready = by-unopened (IsReadyBy a.told (Adopt source dest)) a.told why (λ reason head. head) (λ f. tt) o.refused;
           long = tt;
           reads = plain.reads;
           host = refl;
@@ -341,14 +329,13 @@ module _ (X : List ℕ → List ℕ) (N : List ℕ → ℕ) where
           pins = tt;
           kept = λ held tells p es named can. no-other-same X (adopted_blocks X N (tree_at held source) source dest p es) a.told m.told told;
           writes = subst (λ f. RisesFor f w w) (sym quiet.unwritten) (rises-still w);
-          cause = Shown-opening Mfs X (IsBadInHead X N a.told) (IsBadIn X N a.told m.told) (bad-of-none X N a.told m.told) f why a m is cause;
+          cause = shown-by X (IsBadInHead X N a.told) (IsBadIn X N a.told m.told) (fault_behind why) a m (bad-of-none X N a.told m.told) o.reads.cause;
           whole = λ s needs stands quiet2. absurd cc;
           touches = λ p es bytes rows named input heights quiet2. tt;
-          touched = (opening-touched Mfs f why t0 t1 is up).risen;
+          touched = o.touched.risen;
           unready = λ e is. record { told = told; left = refl; reads = refl };
           unplaced = λ p es names stood none. record { told = told; left = refl; reads = refl };
           leaves = record {
-            good = KeepsGood-same X a.told m.told told;
             head = ap head_in told;
             writes = subst (λ d. WritesAs X MovesHead d a.told m.told) (sym quiet.undone) (record { between = a.told; saves = SavesOnly-refl X a.told; last = Same told });
             idle = λ p es bytes names calm same. absurd cc;
@@ -365,9 +352,13 @@ module _ (X : List ℕ → List ℕ) (N : List ℕ → ℕ) where
         over p es held bytes (inr x) = inr (record { ends = subst (λ e. EndsBy e (Err why) h h) x.ends_are (refl, refl); stands = x.stands })
 
     -- the tree is opened
-    module _ (b : Seen) (tree : Mfs) (opens : (s : Standing) → TellsAs X N a.told s → Stood a.faults m.faults → Opens X N m.told s (Ok tree))
-        (lost : (p : Profile) (es : Entries) → NamesOver X N a.told p es → Stood a.faults m.faults → OpensOver X N a.told p es (Ok tree))
-        (head : ReadsHead a.told (Ok tree)) (calm : StaysCalm a m) (t1 t2 : ℕ) (low : t0 ≤ t1) where
+    module _ (tree : Mfs) (o : OpensTree X N (Ok tree) a m t0 t1) (b : Seen) (t2 : ℕ) where
+      told : m.told ≡ a.told
+      told = o.reads.told
+
+      calm : StaysCalm a m
+      calm = o.reads.cause
+
       module _ (done : Result (Unit {0}) Refusal) (grafts : GraftsIn X N tree source dest done m b t1 t2) where
         front : Stood a.faults b.faults → Stood a.faults m.faults
         front stood = stood-front a.faults m.faults b.faults calm.faults (shown-rises X (IsBadInTree X N (Some tree.profile) tree.root.cid) (refusal_fault done) m b grafts.cause).faults stood
@@ -378,7 +369,7 @@ module _ (X : List ℕ → List ℕ) (N : List ℕ → ℕ) where
         over-opened : (p : Profile) (es : Entries) (held : Lookup) → StaysNamed X N a.told b.told p es → TellsBlocks a.told held → Calm a b
             → DoesOver X N a.told b.told p es (placing_needs X N dest (Some (adopted_name source)) p es) (adopt_reply X N held source dest p es) done h h
         over-opened p es held named tells both =
-            let at = lost p es named.names (front both.faults) in
+            let at = o.lost p es named.names (front both.faults) in
             subst (λ t. DoesOver X N t b.told p es (placing_needs X N dest (Some (adopted_name source)) p es) (adopt_reply X N held source dest p es) done h h) told
             (grafts.lost p es held h (subst (λ t. StandsOver X N t tree p es) (sym told) at) (named-from X N a.told m.told b.told p es told named) (subst (λ t. TellsBlocks t held) (sym told) tells) (back both))
 
@@ -390,14 +381,14 @@ module _ (X : List ℕ → List ℕ) (N : List ℕ → ℕ) where
         -- the tree has no spot for it
         no-spot : (p : Profile) (es : Entries) → NamesOver X N a.told p es → Stood a.faults b.faults → IsErr (spotted dest (Some (adopted_name source)) es) → IsErr done × (b.told ≡ a.told)
         no-spot p es names stood nowhere =
-            let at = lost p es names (front stood) in
+            let at = o.lost p es names (front stood) in
             let x = grafts.unplaced p es (subst (λ t. StandsOver X N t tree p es) (sym told) at) (stood-back a.faults m.faults b.faults calm.faults stood) nowhere in
             (x.0, x.1 ∙ told)
 
         -- what was saved
         saved-opened : KeepsAdopted X N a b source dest
         saved-opened = λ held tells p es named can.
-            let at = lost p es named.names (still-stood a.faults m.faults can.faults calm.faults) in
+            let at = o.lost p es named.names (still-stood a.faults m.faults can.faults calm.faults) in
             subst (λ t. SavesNoOther X (adopted_blocks X N (tree_at held source) source dest p es) t b.told) told
             (grafts.no_other held p es (subst (λ t. TellsBlocks t held) (sym told) tells) (subst (λ t. StandsOver X N t tree p es) (sym told) at) named.last (can-rise-later a m calm can))
 
@@ -406,14 +397,14 @@ module _ (X : List ℕ → List ℕ) (N : List ℕ → ℕ) where
 
         answers-opened : (s : Standing) (held : Lookup) (input : Outside) → TellsAs X N a.told s → TellsBlocks a.told held → Calm a b
             → DoesAnswer X N (Adopt source dest) (world_of s held input) done h h b.told side.told
-        answers-opened NoHead held input stands tells both = absurd (opens NoHead stands (front both.faults))
-        answers-opened BadHead held input stands tells both = absurd (opens BadHead stands (front both.faults))
+        answers-opened NoHead held input stands tells both = absurd (o.opens NoHead stands (front both.faults))
+        answers-opened BadHead held input stands tells both = absurd (o.opens BadHead stands (front both.faults))
         answers-opened (Stands p es) held input stands tells both =
             over-answers source dest held input a.told b.told p es done h side.told stands (over-opened p es held (named-of X N a.told b.told p es stands all_good) tells both)
 
         shown : Shown X (IsBadIn X N a.told b.told) (refusal_fault done) a b
         shown = shown-after X (IsBadIn X N a.told b.told) (refusal_fault done) a m b calm
-            (shown-by X (IsBadInTree X N (Some tree.profile) tree.root.cid) (IsBadIn X N a.told b.told) (refusal_fault done) m b (λ role bytes bad. bad-of-head X N a.told b.told tree head role bytes (inl (inl bad))) grafts.cause)
+            (shown-by X (IsBadInTree X N (Some tree.profile) tree.root.cid) (IsBadIn X N a.told b.told) (refusal_fault done) m b (λ role bytes bad. bad-of-head X N a.told b.told tree o.head role bytes (inl (inl bad))) grafts.cause)
 
       -- it is refused
       pub graft-stopped : (why : Refusal) → GraftsIn X N tree source dest (Err why) m b t1 t2 → Does X N (Adopt source dest) (Err why) (around a l i h w t0 side er) (around b l i h w t2 side er2)
@@ -439,11 +430,10 @@ module _ (X : List ℕ → List ℕ) (N : List ℕ → ℕ) where
             cause = shown (Err why) g;
             whole = λ s needs stands quiet2. absurd cc;
             touches = λ p es bytes rows named input heights quiet2. tt;
-            touched = λ blames. let more = g.touched blames in omega (arith, low, more);
+            touched = λ blames. let low = o.touched.kept in let more = g.touched blames in omega (arith, low, more);
             unready = λ e is. absurd (not-unready {A = Unit {0}} graft_kinds (Err why) refl refl g.kinds is);
             unplaced = λ p es names stood none. record { told = (no-spot (Err why) g p es names stood none).1; left = refl; reads = refl };
             leaves = record {
-              good = all_good (Err why) g;
               head = g.head ∙ ap head_in told;
               writes = subst (λ d. WritesAs X MovesHead d a.told b.told) (sym quiet.undone) (subst (λ t. WritesAs X MovesHead false t b.told) told g.writes);
               idle = λ p es bytes names calm same. absurd cc;
@@ -474,7 +464,7 @@ module _ (X : List ℕ → List ℕ) (N : List ℕ → ℕ) where
         touched = λ blames. absurd blames;
         unready = λ e is. absurd cc;
         unplaced = λ p es names stood none. absurd (let e : false ≡ true = (no-spot (Ok tt) g p es names stood none).0 in cc);
-        leaves = record { good = all_good (Ok tt) g; head = tt; writes = (tree.profile, profile-said a.told tree head, subst (λ t. HeadBy X tree.profile t b.told) told g.writes); idle = λ p es bytes names calm same. absurd cc };
+        leaves = record { head = tt; writes = (tree.profile, profile-said a.told tree o.head, subst (λ t. HeadBy X tree.profile t b.told) told g.writes); idle = λ p es bytes names calm same. absurd cc };
       }
 
       pub graft-ends : (done : Result (Unit {0}) Refusal) → GraftsIn X N tree source dest done m b t1 t2 → Does X N (Adopt source dest) done (around a l i h w t0 side er) (around b l i h w t2 side er2)

@@ -22,7 +22,7 @@ use Rattle.uf_store.specs.Keeping.{KeepsGood}
 use Rattle.uf_store.specs.Seen.{Seen}
 use Rattle.uf_store.proofs.Calls.{shown-after, shown-rises, stood-back, stood-front}
 use Rattle.uf_store.proofs.Causes.{StaysCalm-trans, calm-rises}
-use Rattle.uf_store.proofs.Keeping.{KeepsGood-same, KeepsGood-trans}
+use Rattle.uf_store.proofs.Keeping.{KeepsGood-trans}
 use Rattle.uf_tree.specs.Standing.{IsHeadNote, Stands}
 use Rattle.uf_tree.specs.Tree.{Tree, Dir, Entries}
 use Rattle.uf_tree.specs.TreePlan.{blocks}
@@ -83,7 +83,6 @@ module _ (X : List ℕ → List ℕ) (N : List ℕ → ℕ) (mfs : Mfs) (path : 
       cause = Shown-tree B X (IsBadInTree X N None mfs.root.cid) (IsBadAsked X N mfs.profile b.told mfs.root.cid) (bad-way X N mfs.profile b.told mfs.root.cid) f w a b is cause;
       touches = λ p es rows over named heights calm. few p es rows over calm.faults;
       touched = tree-touched B f w t0 t1 is up;
-      good = KeepsGood-same X a.told b.told told;
       head = ap head_in told;
       kept = λ p es over named can. no-other-same X (asked_blocks X N ask path.names p es) a.told b.told told;
       writes = subst (λ s. WritesInTree X mfs.profile s false a.told b.told) (sym looks) told;
@@ -108,7 +107,6 @@ module _ (X : List ℕ → List ℕ) (N : List ℕ → ℕ) (mfs : Mfs) (path : 
       cause = made-shown M X (IsBadAsked X N mfs.profile b.told mfs.root.cid) text r a b made calm;
       touches = λ p es rows over named heights calm2. few p es rows over calm2.faults;
       touched = made-touched M text r t0 t1 made up;
-      good = KeepsGood-same X a.told b.told told;
       head = stays-same r a.told b.told (ap head_in told);
       kept = λ p es over named can. no-other-same X (asked_blocks X N ask path.names p es) a.told b.told told;
       writes = subst (λ s. WritesInTree X mfs.profile s (is_ok r) a.told b.told) (sym looks) told;
@@ -142,7 +140,6 @@ module _ (X : List ℕ → List ℕ) (N : List ℕ → ℕ) (mfs : Mfs) (path : 
       cause = Shown-tree (Unit {0}) X (IsBadAsked X N mfs.profile m.told mfs.root.cid) (IsBadAsked X N mfs.profile m.told mfs.root.cid) (λ role bytes h. h) f w a m is e.cause;
       touches = λ p es rows over named heights calm. e.touches p rows over.profile_is heights es (folder-over p es over named calm);
       touched = tree-touched (Unit {0}) f w t0 t1 is e.touched;
-      good = e.good;
       head = saves-head X a.told m.told e.saves;
       writes = record { between = m.told; saves = e.saves; last = Same refl };
       kept = λ p es over named can. edit-saves p es over named can e.no_other;
@@ -195,7 +192,6 @@ module _ (X : List ℕ → List ℕ) (N : List ℕ → ℕ) (mfs : Mfs) (path : 
                 let x = e.touches p rows over.profile_is heights es (folder-over p es over (named-before X N a.told m.told b.told p es leaves named) (first-calm rises.faults rises.clashes calm2)) in
                 omega (arith, x, still);
             touched = tree-touched (Unit {0}) f w t0 t2 is (counts-then e.touched later_up);
-            good = both-good;
             head = head;
             writes = record { between = m.told; saves = e.saves; last = leaves };
             kept = λ p es over named can.
@@ -229,7 +225,6 @@ module _ (X : List ℕ → List ℕ) (N : List ℕ → ℕ) (mfs : Mfs) (path : 
             let x = e.touches p rows over.profile_is heights es (folder-over p es over (named-between X N a.told m.told b.told new.profile new.root.cid p es commits named) (first-calm rises.faults rises.clashes calm2)) in
             omega (arith, x, still);
         touched = record { kept = (let x = e.touched.kept in omega (arith, x, still)); risen = λ blames. absurd blames };
-        good = both-good;
         head = stays-nothing text a.told b.told nothing;
         writes = (new.root.cid, record { between = m.told; saves = e.saves; last = subst (λ p. Commits p new.root.cid m.told b.told) e.stays.2 commits });
         kept = λ p es over named can.

@@ -16,7 +16,6 @@ use Rattle.uf_store.specs.Seen.{Seen}
 use Rattle.uf_store.specs.declared.store.StoreFault.TheVariants as fault
 use Rattle.uf_store.proofs.Calls.{shown-by}
 use Rattle.uf_store.proofs.Causes.{calm-memory}
-use Rattle.uf_store.proofs.Keeping.{KeepsGood-same}
 use Rattle.uf_tree.specs.Tree.{Tree, File, Dir, Entries}
 use Rattle.uf_tree.specs.declared.meta.Meta.{Meta}
 use Rattle.uf_tree.specs.declared.profile.Profile.{Profile}
@@ -322,7 +321,7 @@ module _ (X : List ℕ → List ℕ) (N : List ℕ → ℕ) (path : DagPath) (a 
         touched = λ blames. absurd (no-blame X a b why of cause blames);
         unready = λ e is. absurd cc;
         unplaced = λ p es names stood none. absurd none;
-        leaves = record { good = KeepsGood-same X a.told b.told same; head = ap head_in same; writes = same; idle = λ p es bs stands calm is. absurd cc };
+        leaves = record { head = ap head_in same; writes = same; idle = λ p es bs stands calm is. absurd cc };
       }
     where
       answered : (world : World) → TellsBlocks a.told world.held → Calm a b → IsOwnRefusal why ⊎ ((said world.held ≡ Err why) × (h2 ≡ h)) → DoesAnswer X N (Cat path) world (Err why) h h2 b.told side.told
@@ -358,7 +357,7 @@ module _ (X : List ℕ → List ℕ) (N : List ℕ → ℕ) (path : DagPath) (a 
     touched = λ blames. absurd blames;
     unready = λ e is. absurd cc;
     unplaced = λ p es names stood none. absurd none;
-    leaves = record { good = KeepsGood-same X a.told b.told same; head = tt; writes = same; idle = λ p es bs stands quiet is. absurd cc };
+    leaves = record { head = tt; writes = same; idle = λ p es bs stands quiet is. absurd cc };
   }
     where
       answered : (world : World) → TellsBlocks a.told world.held → (bytes : List ℕ) × (said world.held ≡ Ok bytes) × (h2 ≡ after h bytes) → DoesAnswer X N (Cat path) world (Ok tt) h h2 b.told side.told
@@ -395,7 +394,7 @@ module _ (X : List ℕ → List ℕ) (N : List ℕ → ℕ) (path : DagPath) (a 
     touched = λ blames. absurd blames;
     unready = λ e is. absurd cc;
     unplaced = λ p es names stood none. absurd none;
-    leaves = record { good = KeepsGood-same X a.told b.told same; head = ap head_in same; writes = same; idle = λ p es bs stands quiet is. absurd cc };
+    leaves = record { head = ap head_in same; writes = same; idle = λ p es bs stands quiet is. absurd cc };
   }
 
 -- ---- the stream of a file that was found

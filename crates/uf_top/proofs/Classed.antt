@@ -16,6 +16,8 @@ use Rattle.uf_command.specs.declared.types.Refusal.{Refusal}
 use Rattle.uf_command.specs.declared.types.Refusal.TheVariants as refusal
 use Rattle.uf_top.specs.Causes.{IsMade, IsProfileRead, IsReady, RefusesInTree, RefusesOpening, is_read}
 use Rattle.uf_top.specs.Intake.{IsRowOf}
+use Rattle.uf_top.specs.Opening.{IsUnopened}
+use Rattle.uf_top.proofs.Refusing.{by-unopened}
 use Rattle.uf_top.proofs.Shows.{counts-still}
 
 -- a fault that saves alone can have is one of `add`
@@ -86,11 +88,8 @@ store-tree (BadBlock cid role) = refl
 store-tree (Clash cid held bytes) = refl
 store-tree Memory = refl
 
-pub opening-kinds : (f : MfsFault) (w : Refusal) → RefusesOpening f w → may_meet tree_kinds (refusal_kind w) ≡ true
-opening-kinds (mfs.Rule rule) w is = absurd is
-opening-kinds (mfs.Ready why) w is = subst (λ w. may_meet tree_kinds (refusal_kind w) ≡ true) (sym is) refl
-opening-kinds mfs.Sink w is = absurd is
-opening-kinds (mfs.Store f) w is = subst (λ w. may_meet tree_kinds (refusal_kind w) ≡ true) (sym is) (store-tree f)
+pub unopened-kinds : (told : Told) (w : Refusal) → IsUnopened told w → may_meet tree_kinds (refusal_kind w) ≡ true
+unopened-kinds told w = by-unopened (λ w. may_meet tree_kinds (refusal_kind w) ≡ true) told w (λ why head. refl) store-tree
 
 -- a call on an opened tree
 store-opened : (f : StoreFault) → opened_kinds (fault_kind f) ≡ true

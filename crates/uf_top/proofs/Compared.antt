@@ -14,7 +14,6 @@ use Rattle.uf_store.specs.Faults.{NoneIsBad}
 use Rattle.uf_store.specs.Seen.{Seen}
 use Rattle.uf_store.specs.declared.store.StoreFault.TheVariants as fault
 use Rattle.uf_store.proofs.Calls.{shown-by}
-use Rattle.uf_store.proofs.Keeping.{KeepsGood-same}
 use Rattle.uf_tree.specs.Tree.{Entries}
 use Rattle.uf_tree.specs.declared.profile.Profile.{Profile}
 use Rattle.uf_command.specs.Cars.{most_car}
@@ -111,7 +110,7 @@ module _ (X : List ℕ → List ℕ) (N : List ℕ → ℕ) (cid : Cid) (a b : S
         touched = λ blames. absurd (of.blames blames);
         unready = λ e is. absurd cc;
         unplaced = λ p es names stood none. absurd none;
-        leaves = record { good = KeepsGood-same X a.told b.told same; head = ap head_in same; writes = same; idle = λ p es bytes stands calm is. absurd cc };
+        leaves = record { head = ap head_in same; writes = same; idle = λ p es bytes stands calm is. absurd cc };
       }
     where
       answered : (world : World) → TellsBlocks a.told world.held → Wants (Err why) world.held world.input → DoesAnswer X N (Same cid) world (Err why) h h b.told side.told
@@ -152,7 +151,7 @@ module _ (X : List ℕ → List ℕ) (N : List ℕ → ℕ) (cid : Cid) (a b : S
       touched = λ blames. absurd blames;
       unready = λ e is. absurd cc;
       unplaced = λ p es names stood none. absurd none;
-      leaves = record { good = KeepsGood-same X a.told b.told same; head = tt; writes = same; idle = λ p es bytes stands calm is. absurd cc };
+      leaves = record { head = tt; writes = same; idle = λ p es bytes stands calm is. absurd cc };
     }
       where
         answered : (world : World) → TellsBlocks a.told world.held → Ok text ≡ car_compared world.held cid (car_read X most_car world.input) → DoesAnswer X N (Same cid) world (Ok tt) h h2 b.told side.told
@@ -185,7 +184,7 @@ module _ (X : List ℕ → List ℕ) (N : List ℕ → ℕ) (cid : Cid) (a b : S
       touched = λ blames. absurd blames;
       unready = λ e is. absurd cc;
       unplaced = λ p es names stood none. absurd none;
-      leaves = record { good = KeepsGood-same X a.told b.told same; head = ap head_in same; writes = same; idle = λ p es bytes stands calm is. absurd cc };
+      leaves = record { head = ap head_in same; writes = same; idle = λ p es bytes stands calm is. absurd cc };
     }
 
     -- or the output failed

@@ -1,7 +1,7 @@
 -- How what is held is compared with a CAR.
 use Rattle.std.proofs.Common.{◌≡◌, ◌⊎◌, ℕ, List, [], ◌∷◌, ◌++◌, false, arith, refl, sym, ap, subst, ◌∙◌, inl, inr, take, drop, append-nil, Some, None, Option, Result, Ok, Err}
 use Rattle.std.proofs.lemmas.List.{take-append-drop, take_all}
-use Rattle.std.specs.Prelude.{Contains, IfSome}
+use Rattle.std.specs.Prelude.{Contains, IfErr, IfSome}
 use Rattle.uf_car.specs.Clashing.{HasTwo, sections_clash, sections_held}
 use Rattle.uf_car.specs.Importing.{ImportsCar, RefusesCar, car_fault, is_source_fault, stops, with_saves}
 use Rattle.uf_car.specs.Reading.{Read, car_read}
@@ -39,6 +39,7 @@ use Rattle.uf_top.specs.Cars.{ComparesCar, ComparesStores, IsRootOf, SparesStore
 use Rattle.uf_top.specs.Naming.{TellsBlocks}
 use Rattle.uf_top.specs.Reply.{by_answer, by_roots, car_compared, compared_text, not_one_root, same_refusal, unless_two, verdict_told}
 use Rattle.uf_top.proofs.Kept.{free-of}
+use Rattle.uf_top.proofs.Refusing.{IsRefusedAs}
 use Rattle.uf_top.proofs.Shows.{not-rose}
 
 -- what is so of each text of an input
@@ -242,7 +243,7 @@ module _ (X : List ℕ → List ℕ) (cid root : Cid) (a b : Seen) (r s : Seen) 
   faulty f says held u tells given = sym (ap verdict_told (judged (λ v. v ≡ Err f) says held u tells given))
 
   -- there was no memory
-  pub unshown : StaysCalm a b → Done (Err no_memory)
+  unshown : StaysCalm a b → Done (Err no_memory)
   unshown calm = record {
     verdict_is = λ held u tells given quiet. inl refl;
     kinds = refl;
@@ -252,7 +253,7 @@ module _ (X : List ℕ → List ℕ) (cid root : Cid) (a b : Seen) (r s : Seen) 
     sections = λ left u given kept. tt;
   }
 
-  pub compared-as : (found : Compared) (text : List ℕ) → Judged (Ok found) → text ≡ compared_text found → StaysCalm a b → Done (Ok text)
+  compared-as : (found : Compared) (text : List ℕ) → Judged (Ok found) → text ≡ compared_text found → StaysCalm a b → Done (Ok text)
   compared-as found text says is calm = record {
     verdict_is = λ held u tells given quiet. inr (ap (λ (t : List ℕ). Ok t) is ∙ sym (ap verdict_told (judged (λ v. v ≡ Ok found) says held u tells given)));
     kinds = tt;
@@ -262,7 +263,7 @@ module _ (X : List ℕ → List ℕ) (cid root : Cid) (a b : Seen) (r s : Seen) 
     sections = λ left u given kept. tt;
   }
 
-  pub not-compared : (f : SameFault) → Judged (Err f) → IsOfLoads f → Shown X NoneIsBad (left_fault {A = Compared} (Err f)) a b → Shown X NoneIsBad (right_fault {A = Compared} (Err f)) r s → MissesNone (left_fault {A = Compared} (Err f)) a b
+  not-compared : (f : SameFault) → Judged (Err f) → IsOfLoads f → Shown X NoneIsBad (left_fault {A = Compared} (Err f)) a b → Shown X NoneIsBad (right_fault {A = Compared} (Err f)) r s → MissesNone (left_fault {A = Compared} (Err f)) a b
       → Done (Err (same_refusal f))
   not-compared (same.NotDagPb c why) says loads left other misses = record {
     verdict_is = λ held u tells given quiet. inr (faulty (same.NotDagPb c why) says held u tells given);
@@ -337,6 +338,23 @@ module _ (X : List ℕ → List ℕ) (cid root : Cid) (a b : Seen) (r s : Seen) 
   not-compared (same.Right (fault.BadBlock c role)) says loads left other misses = absurd loads
   not-compared (same.Right (fault.Clash c first second)) says loads left other misses = absurd loads
   not-compared (same.Right fault.Memory) says loads left other misses = unshown left
+
+  -- by what the comparison answers
+  abbrev IsSame : SameFault → Refusal → Type 0
+  IsSame f why = why ≡ same_refusal f
+
+  pub compared-unshown : (answer : Result Compared SameFault) (given : Compared) → IsRefusedAs IsSame answer (Ok given) → Shown X NoneIsBad (left_fault answer) a b → Done (Err no_memory)
+  compared-unshown (Err f) given is left = absurd is
+  compared-unshown (Ok found) given is calm = unshown calm
+
+  pub compared-shown : (answer : Result Compared SameFault) (given : Compared) → IsRefusedAs IsSame answer (Ok given) → (text : List ℕ) → Judged answer → text ≡ compared_text given → Shown X NoneIsBad (left_fault answer) a b → Done (Ok text)
+  compared-shown (Err f) given is text says told_is left = absurd is
+  compared-shown (Ok found) given is text says told_is calm = let same : given ≡ found = cc in compared-as found text says (told_is ∙ ap compared_text same) calm
+
+  pub uncompared : (answer : Result Compared SameFault) (why : Refusal) → IsRefusedAs IsSame answer (Err why) → Judged answer → IfErr answer IsOfLoads → Shown X NoneIsBad (left_fault answer) a b → Shown X NoneIsBad (right_fault answer) r s
+      → MissesNone (left_fault answer) a b → Done (Err why)
+  uncompared (Ok found) why is says loads left other misses = absurd cc
+  uncompared (Err f) why is says loads left other misses = subst (λ (why : Refusal). Done (Err why)) (sym is) (not-compared f says loads left other misses)
 
 -- ---- both in turn
 

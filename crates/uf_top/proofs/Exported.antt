@@ -19,7 +19,6 @@ use Rattle.uf_store.specs.Seen.{Seen}
 use Rattle.uf_store.specs.declared.store.StoreFault.{StoreFault}
 use Rattle.uf_store.specs.declared.store.StoreFault.TheVariants as fault
 use Rattle.uf_store.proofs.Calls.{shown-by}
-use Rattle.uf_store.proofs.Keeping.{KeepsGood-same}
 use Rattle.uf_tree.specs.Tree.{Entries}
 use Rattle.uf_tree.specs.declared.profile.Profile.{Profile}
 use Rattle.uf_walk.specs.Order.{OrderFault, order}
@@ -156,7 +155,7 @@ module _ (X : List ℕ → List ℕ) (N : List ℕ → ℕ) (cid : Cid) (a b : S
         touched = λ blames. absurd (no-blame X a b why of cause blames);
         unready = λ e is. absurd cc;
         unplaced = λ p es names stood none. absurd none;
-        leaves = record { good = KeepsGood-same X a.told b.told same; head = ap head_in same; writes = same; idle = λ p es bs stands calm is. absurd cc };
+        leaves = record { head = ap head_in same; writes = same; idle = λ p es bs stands calm is. absurd cc };
       }
     where
       answered : (world : World) → TellsBlocks a.told world.held → Calm a b → Refuses why world.held → DoesAnswer X N (Export cid) world (Err why) h h2 b.told side.told
@@ -192,7 +191,7 @@ module _ (X : List ℕ → List ℕ) (N : List ℕ → ℕ) (cid : Cid) (a b : S
     touched = λ blames. absurd blames;
     unready = λ e is. absurd cc;
     unplaced = λ p es names stood none. absurd none;
-    leaves = record { good = KeepsGood-same X a.told b.told same; head = tt; writes = same; idle = λ p es bs stands quiet is. absurd cc };
+    leaves = record { head = tt; writes = same; idle = λ p es bs stands quiet is. absurd cc };
   }
     where
       answered : (world : World) → TellsBlocks a.told world.held → Whole world.held → DoesAnswer X N (Export cid) world (Ok tt) h h2 b.told side.told
@@ -229,7 +228,7 @@ module _ (X : List ℕ → List ℕ) (N : List ℕ → ℕ) (cid : Cid) (a b : S
     touched = λ blames. absurd blames;
     unready = λ e is. absurd cc;
     unplaced = λ p es names stood none. absurd none;
-    leaves = record { good = KeepsGood-same X a.told b.told same; head = ap head_in same; writes = same; idle = λ p es bs stands quiet is. absurd cc };
+    leaves = record { head = ap head_in same; writes = same; idle = λ p es bs stands quiet is. absurd cc };
   }
 
   -- ---- by what the export answers

@@ -1,5 +1,5 @@
 -- How a file of the tree that the Head names is sent to the output.
-use Rattle.std.proofs.Common.{◌≡◌, ◌≢◌, ◌⊎◌, ℕ, zero, suc, ◌<◌, ◌≤◌, ◌+◌, List, [], ◌++◌, length, take, true, arith, refl, sym, ap, subst, ◌∙◌, inl, inr, None, Result, Ok, Err}
+use Rattle.std.proofs.Common.{◌≡◌, ◌≢◌, ◌⊎◌, ℕ, zero, suc, ◌<◌, ◌≤◌, ◌+◌, List, [], ◌++◌, length, take, true, arith, refl, sym, ap, subst, ◌∙◌, inl, inr, Result, Ok, Err}
 use Rattle.std.specs.Prelude.{IfErr, IsTrue, ⊤}
 use Rattle.uf_cid.specs.Blocks.{Held}
 use Rattle.uf_edge.specs.Counts.{Counts, Stood}
@@ -7,10 +7,9 @@ use Rattle.uf_edge.specs.Streams.{after, AppendsPrefix}
 use Rattle.uf_edge.specs.Streams as streams
 use Rattle.uf_fileread.specs.Ranges.{AppendsAtMost}
 use Rattle.uf_mfs.specs.Answers as tree
-use Rattle.uf_mfs.specs.Answers.{ShownOpening}
 use Rattle.uf_mfs.specs.Bad.{IsBadInHead}
 use Rattle.uf_mfs.specs.Reading.{AreHeights, CanRise, IsBadRead, IsHeightOf, SendsAll, ShownSending, range_needs, range_touches, to_read}
-use Rattle.uf_mfs.specs.Standing.{NamesOver, Opens, OpensOver, ReadsHead, StandsAt, StandsOver, TellsAs, head_in}
+use Rattle.uf_mfs.specs.Standing.{NamesOver, StandsAt, StandsOver, TellsAs, head_in}
 use Rattle.uf_mfs.specs.Steps.{tree_fault}
 use Rattle.uf_mfs.specs.Touches.{CountsUp, IsBlaming, read_bound}
 use Rattle.uf_mfs.specs.declared.fault.MfsFault.{MfsFault}
@@ -36,65 +35,50 @@ use Rattle.uf_store.specs.declared.store.StoreFault.{StoreFault}
 use Rattle.uf_store.specs.declared.store.StoreFault.TheVariants as fault
 use Rattle.uf_store.proofs.Calls.{shown-after, shown-by, stood-back, stood-front}
 use Rattle.uf_store.proofs.Causes.{Shows-rises, calm-rises}
-use Rattle.uf_store.proofs.Keeping.{KeepsGood-same}
 use Rattle.uf_tree.specs.Standing.{Standing, NoHead, BadHead, Stands}
 use Rattle.uf_tree.specs.Profiles.{is_profile}
 use Rattle.uf_tree.specs.Tree.{Dir, Entries, File, Tree}
 use Rattle.uf_tree.specs.TreePlan.{blocks}
 use Rattle.uf_tree.specs.declared.profile.Profile.{Profile}
 use Rattle.uf_command.specs.Natures.{NoWrites}
-use Rattle.uf_command.specs.Kinds.{IsOf, tree_kinds, fault_kind, may_close, refusal_fault}
+use Rattle.uf_command.specs.Kinds.{IsOf, tree_kinds, fault_behind, fault_kind, may_close, refusal_fault}
 use Rattle.uf_top.specs.Reply.{in_tree, looked, read_reply}
 use Rattle.uf_command.specs.Statuses.{ended, fault_status, no_memory}
-use Rattle.uf_command.specs.declared.types.Ask.TheVariants.{Stat}
 use Rattle.uf_command.specs.declared.types.Command.{Command}
-use Rattle.uf_command.specs.declared.types.Command.TheVariants.{At, Read}
+use Rattle.uf_command.specs.declared.types.Command.TheVariants.{Read}
 use Rattle.uf_command.specs.declared.types.Refusal.{Refusal}
 use Rattle.uf_command.specs.declared.types.Refusal.TheVariants as refusal
 use Rattle.uf_top.specs.Answering.{DoesReply, DoesWant}
 use Rattle.uf_top.specs.Around.{HostSide, RisesFor, SinkSide, around}
-use Rattle.uf_top.specs.Causes.{IsBadIn, IsReady, IsReadyBy, IsSendingFault, RefusesOpening, RefusesSending, is_read, is_write}
+use Rattle.uf_top.specs.Causes.{IsBadIn, IsReady, IsReadyBy, RefusesSending, is_read, is_write}
 use Rattle.uf_top.specs.Endings.{FindsAll, PrintsAt, PrintsPart}
 use Rattle.uf_top.specs.Losing.{DoesOver, part_needs, rows_found}
 use Rattle.uf_top.specs.Naming.{NamesAfter, NamesAs}
+use Rattle.uf_top.specs.Opening.{OpensTree}
 use Rattle.uf_top.specs.Shapes.{WritesAs, is_done}
 use Rattle.uf_top.specs.Working.{Does, Makes}
-use Rattle.uf_top.proofs.Classed.{opening-kinds, tree-counts}
-use Rattle.uf_top.proofs.Finding.{read-whole}
-use Rattle.uf_top.proofs.InTree.{not-opened, opening-ready}
+use Rattle.uf_top.proofs.Classed.{tree-counts, unopened-kinds}
+use Rattle.uf_top.proofs.Finding.{unopened-whole}
+use Rattle.uf_top.proofs.InTree.{not-opened}
 use Rattle.uf_top.proofs.Losing.{names-of, names-same, opening-over}
 use Rattle.uf_top.proofs.Printing.{after-nothing, of-no-host, refused-does, whole-printed}
-use Rattle.uf_top.proofs.Shows.{Shown-opening, bad-of-none, counts-still, head_of, none-long, opening-touched}
+use Rattle.uf_top.proofs.Refusing.{IsRefusedAs, by-unopened}
+use Rattle.uf_top.proofs.Shows.{bad-of-none, counts-still, head_of, none-long}
 use Rattle.uf_top.proofs.Standings.{stands-same, tells-none}
-
--- the reason that holds of one command on the tree holds of another
-ready-read : (offset count : ℕ) (path : Path) (told : Told) (w : Refusal) → IsReadyBy told (At Stat path) w → IsReadyBy told (Read offset count path) w
-ready-read offset count path told (refusal.Rule rule) h = tt
-ready-read offset count path told (refusal.Dag rule) h = tt
-ready-read offset count path told (refusal.Car number place) h = tt
-ready-read offset count path told (refusal.CarLacks cid) h = tt
-ready-read offset count path told (refusal.OwnClash cid first second) h = tt
-ready-read offset count path told (refusal.Host rule) h = tt
-ready-read offset count path told (refusal.BadPath why) h = tt
-ready-read offset count path told refusal.InputTooLong h = tt
-ready-read offset count path told refusal.BadPins h = tt
-ready-read offset count path told refusal.Usage h = tt
-ready-read offset count path told (refusal.Ready why) h = h
-ready-read offset count path told refusal.Read h = tt
-ready-read offset count path told refusal.Write h = tt
-ready-read offset count path told (refusal.Store f) h = tt
-
--- the fault of a call that sends is one
-pub sending-fault : (A : Type 0) (hash : List ℕ → List ℕ) (P : Role → List ℕ → Type 0) (f : MfsFault) (a b : Seen) (w v : ℕ) → ShownSending {A = A} hash P (Err f) a b w v → IsSendingFault f
-sending-fault A hash P (mfs.Rule rule) a b w v h = tt
-sending-fault A hash P (mfs.Ready why) a b w v h = h
-sending-fault A hash P mfs.Sink a b w v h = tt
-sending-fault A hash P (mfs.Store f) a b w v h = tt
 
 -- what became of a call that sends
 abbrev SentAs : Result ℕ MfsFault → Result (Unit {0}) Refusal → Type 0
 SentAs (Ok n) done = done ≡ Ok tt
 SentAs (Err f) done = (why : Refusal) × (done ≡ Err why) × RefusesSending f why
+
+-- so it is of one whose count of bytes isn't asked for
+pub sent-done : (r : Result ℕ MfsFault) (n : ℕ) → IsRefusedAs RefusesSending r (Ok n) → SentAs r (Ok tt)
+sent-done (Ok n) m is = refl
+sent-done (Err f) m is = absurd is
+
+pub sent-refused : (r : Result ℕ MfsFault) (why : Refusal) → IsRefusedAs RefusesSending r (Err why) → SentAs r (Err why)
+sent-refused (Ok n) why is = absurd cc
+sent-refused (Err f) why is = (why, refl, is)
 
 take-none : (count : ℕ) → take {A = ℕ} count [] ≡ []
 take-none zero = refl
@@ -285,44 +269,40 @@ not-sink w v hash P a b (Err (mfs.Ready why)) shown stood = λ e. cc
 not-sink w v hash P a b (Err mfs.Sink) shown stood = λ e. (let rose = shown.1 in omega (arith, rose, stood))
 not-sink w v hash P a b (Err (mfs.Store f)) shown stood = λ e. cc
 
-module _ (X : List ℕ → List ℕ) (N : List ℕ → ℕ) (offset count : ℕ) (path : Path) (a m : Seen) (told : m.told ≡ a.told) (l : streams.Told) (i : ℕ) (h : streams.Told) (w t0 t1 : ℕ) (opens_by : t1 ≤ t0 + 1) (side : HostSide) (er er2 : SinkSide) where
+module _ (X : List ℕ → List ℕ) (N : List ℕ → ℕ) (offset count : ℕ) (path : Path) (a m : Seen) (l : streams.Told) (i : ℕ) (h : streams.Told) (w t0 t1 : ℕ) (side : HostSide) (er er2 : SinkSide) where
   -- ---- the tree isn't opened
 
-  pub send-unopened : (f : MfsFault) (why : Refusal) → RefusesOpening f why → ((s : Standing) → TellsAs X N a.told s → Stood a.faults m.faults → Opens X N m.told s (Err f))
-      → ((p : Profile) (es : Entries) → NamesOver X N a.told p es → Stood a.faults m.faults → OpensOver X N a.told p es (Err f))
-      → ReadsHead a.told (Err f) → CountsUp (tree_fault {A = Mfs} (Err f)) t0 t1 → ShownOpening X (IsBadInHead X N a.told) {A = Mfs} (Err f) a m
-      → Does X N (Read offset count path) (Err why) (around a l i h w t0 side er) (around m l i h w t1 side er2)
-  send-unopened f why is opens lost head up cause = refused-does X N (Read offset count path) refl a m l l i i t0 t1 h w side side er er2 why makes
+  pub send-unopened : (why : Refusal) → OpensTree X N (Err why) a m t0 t1 → Does X N (Read offset count path) (Err why) (around a l i h w t0 side er) (around m l i h w t1 side er2)
+  send-unopened why o = refused-does X N (Read offset count path) refl a m l l i i t0 t1 h w side side er er2 why makes
     where
+      told : m.told ≡ a.told
+      told = o.reads.told
+
       makes : Makes X N (Read offset count path) (Err why) (around a l i h w t0 side er) (around m l i h w t1 side er2)
       makes = record {
-        answers = λ world stands input calm. not-opened X N world.standing (read_reply offset count path.names) f why m.told is (opens world.standing stands calm.faults) (stands-same X N a.told m.told world.standing told stands);
+        answers = λ world stands input calm. not-opened X N world.standing (read_reply offset count path.names) why m.told (o.opens world.standing stands calm.faults) (stands-same X N a.told m.told world.standing told stands);
         lost = λ p es rows held bytes named input calm.
-            opening-over X N a.told m.told p es (part_needs X N rows offset count path.names p es) (read_reply offset count path.names p es) f why is (lost p es named.names calm.faults)
+            opening-over X N a.told m.told p es (part_needs X N rows offset count path.names p es) (read_reply offset count path.names p es) why (o.lost p es named.names calm.faults)
             (names-same X N a.told m.told p es told named);
-        kinds = opening-kinds f why is;
-        ready = ready-read offset count path a.told why (opening-ready a.told Stat path f why is head);
+        kinds = unopened-kinds a.told why o.refused;
+        ready = by-unopened (IsReadyBy a.told (Read offset count path)) a.told why (λ reason head. head) (λ f. tt) o.refused;
         adds = tt;
         kept = tt;
-        reads = tree-counts (Err why) i (opening-kinds f why is);
+        reads = tree-counts (Err why) i (unopened-kinds a.told why o.refused);
         host = refl;
         rows = tt;
-        cause = Shown-opening Mfs X (IsBadInHead X N a.told) (IsBadIn X N a.told m.told) (bad-of-none X N a.told m.told) f why a m is cause;
-        touches = λ p es bytes rows named input heights calm. omega (arith, opens_by);
-        whole = λ s stands calm. read-whole X N s offset count path.names (Err why) m.told
-            (not-opened X N s (read_reply offset count path.names) f why m.told is (opens s stands calm.faults) (stands-same X N a.told m.told s told stands));
-        touched = (opening-touched Mfs f why t0 t1 is up).risen;
+        cause = shown-by X (IsBadInHead X N a.told) (IsBadIn X N a.told m.told) (fault_behind why) a m (bad-of-none X N a.told m.told) o.reads.cause;
+        touches = λ p es bytes rows named input heights calm. let one = o.touches in omega (arith, one);
+        whole = λ s stands calm. unopened-whole X N s why m.told (o.opens s stands calm.faults);
+        touched = o.touched.risen;
         unready = λ e is. record { told = told; left = refl; reads = refl };
         unplaced = λ p es names stood none. absurd none;
-        leaves = record { good = KeepsGood-same X a.told m.told told; head = ap head_in told; writes = told; idle = λ p es bytes stands calm same. absurd cc };
+        leaves = record { head = ap head_in told; writes = told; idle = λ p es bytes stands calm same. absurd cc };
       }
 
   -- ---- the tree is opened, and the file is sent
 
-  module _ (found : Mfs) (opens : (s : Standing) → TellsAs X N a.told s → Stood a.faults m.faults → Opens X N m.told s (Ok found))
-      (over : (p : Profile) (es : Entries) → NamesOver X N a.told p es → Stood a.faults m.faults → OpensOver X N a.told p es (Ok found))
-      (head : ReadsHead a.told (Ok found)) (up : CountsUp None t0 t1) (calm : StaysCalm a m)
-      (b : Seen) (h2 : streams.Told) (w2 t2 : ℕ) (r : Result ℕ MfsFault) (done : Result (Unit {0}) Refusal) (sent : SentAs r done)
+  module _ (found : Mfs) (o : OpensTree X N (Ok found) a m t0 t1) (b : Seen) (h2 : streams.Told) (w2 t2 : ℕ) (r : Result ℕ MfsFault) (done : Result (Unit {0}) Refusal) (sent : SentAs r done)
       (answer : (p : Profile) (es : Entries) → StandsAt X N m.told found p es → Stood m.faults b.faults → r ≢ Err mfs.Sink
       → tree.Answers (λ bytes n. SendsAll h h2 bytes n) path.names (range_at offset count path.names es) r)
       (lost : (p : Profile) (es : Entries) (height : ℕ) → StandsOver X N m.told found p es → IsHeightOf p height (at 0 path.names (Dir es)) → Stood m.faults b.faults → r ≢ Err mfs.Sink
@@ -331,8 +311,14 @@ module _ (X : List ℕ → List ℕ) (N : List ℕ → ℕ) (offset count : ℕ)
       (sends : AppendsAtMost count h h2) (cause : ShownSending X (IsBadRead X N m.told found.root.cid) r m b w w2) (told2 : b.told ≡ m.told)
       (touches : (p : Profile) (es : Entries) (rows : ℕ → ℕ) → StandsOver X N m.told found p es → AreHeights p rows → Stood m.faults b.faults → t2 ≤ t1 + read_bound (range_touches p rows offset count) path.names (Dir es))
       (touched : CountsUp (tree_fault r) t1 t2) where
+    told : m.told ≡ a.told
+    told = o.reads.told
+
     same : b.told ≡ a.told
     same = told2 ∙ told
+
+    calm : StaysCalm a m
+    calm = o.reads.cause
 
     rises : Rises m b
     rises = sending-rises X (IsBadRead X N m.told found.root.cid) m b w w2 r cause
@@ -350,7 +336,7 @@ module _ (X : List ℕ → List ℕ) (N : List ℕ → ℕ) (offset count : ℕ)
     room-kept had = subst CanRise (sym calm.faults) had
 
     opened-over : (p : Profile) (es : Entries) → NamesOver X N a.told p es → Stood a.faults m.faults → StandsOver X N m.told found p es
-    opened-over p es names stood = subst (λ t. StandsOver X N t found p es) (sym told) (over p es names stood)
+    opened-over p es names stood = subst (λ t. StandsOver X N t found p es) (sym told) (o.lost p es names stood)
 
     at-room : (p : Profile) (es : Entries) → NamesOver X N a.told p es → CanRise a.faults → StandsOver X N m.told found p es
     at-room p es names had = opened-over p es names (stood-calm a.faults m.faults calm.faults had)
@@ -360,16 +346,16 @@ module _ (X : List ℕ → List ℕ) (N : List ℕ → ℕ) (offset count : ℕ)
 
     ok-answer : (s : Standing) → TellsAs X N a.told s → Stood a.faults b.faults → r ≢ Err mfs.Sink
         → DoesWant X N true s done b.told ⊎ DoesReply X N true (in_tree (read_reply offset count path.names) s) done h h2 b.told
-    ok-answer NoHead stands stood other = absurd (opens NoHead stands (front stood))
-    ok-answer BadHead stands stood other = absurd (opens BadHead stands (front stood))
+    ok-answer NoHead stands stood other = absurd (o.opens NoHead stands (front stood))
+    ok-answer BadHead stands stood other = absurd (o.opens BadHead stands (front stood))
     ok-answer (Stands p es) stands stood other =
-        let at = opens (Stands p es) stands (front stood) in
+        let at = o.opens (Stands p es) stands (front stood) in
         answered X N path.names h h2 b.told (Stands p es) (range_at offset count path.names es) r done sent (answer p es at (back stood) other)
         (prefix p es (opened-over p es (names-of X N a.told p es stands) (front stood)) (room stood)) (stands-same X N a.told b.told (Stands p es) same stands)
 
     printed : (s : Standing) → NamesAs X N a.told b.told s → CanRise a.faults → PrintsPart (in_tree (read_reply offset count path.names) s).ends h h2
-    printed NoHead names had = absurd (opens NoHead names (stood-calm a.faults m.faults calm.faults had))
-    printed BadHead names had = absurd (opens BadHead names (stood-calm a.faults m.faults calm.faults had))
+    printed NoHead names had = absurd (o.opens NoHead names (stood-calm a.faults m.faults calm.faults had))
+    printed BadHead names had = absurd (o.opens BadHead names (stood-calm a.faults m.faults calm.faults had))
     printed (Stands p es) named had =
         let at = at-room p es named.names had in let high = tall X N p m.told path.names es at.root.plan.profile in
         part-printed X N path.names h h2 (IsLossOf m.told (needs_at X N p (range_needs X p high.0 offset count) path.names (Dir es))) (Stands p es) (range_at offset count path.names es) r
@@ -408,23 +394,23 @@ module _ (X : List ℕ → List ℕ) (N : List ℕ → ℕ) (offset count : ℕ)
           (shown-by X (IsBadRead X N m.told found.root.cid) (IsBadIn X N a.told b.told) (refusal_fault done) m b (λ role bytes bad. bad-of-read (subst (λ t. IsBadRead X N t found.root.cid role bytes) told bad)) (sending-shown X (IsBadRead X N m.told found.root.cid) m b w w2 r done sent cause));
       whole = λ s needs stands quiet. finds s stands quiet.faults;
       touches = λ p es bytes rows named input heights quiet.
-          let more = touches p es rows (opened-over p es named.names (front quiet.faults)) heights (back quiet.faults) in omega (arith, opens_by, more);
+          let more = touches p es rows (opened-over p es named.names (front quiet.faults)) heights (back quiet.faults) in let one = o.touches in omega (arith, one, more);
       touched = by-kind;
       unready = λ e is. record { told = same; left = refl; reads = refl };
       unplaced = λ p es names stood none. absurd none;
-      leaves = record { good = KeepsGood-same X a.told b.told same; head = if-err done _ (ap head_in same); writes = same-writes; idle = λ p es bytes stands calm same. absurd cc };
+      leaves = record { head = if-err done _ (ap head_in same); writes = same-writes; idle = λ p es bytes stands calm same. absurd cc };
     }
       where
         finds : (s : Standing) → TellsAs X N a.told s → Stood a.faults b.faults → FindsAll (ended done)
-        finds NoHead stands stood = absurd (opens NoHead stands (front stood))
-        finds BadHead stands stood = absurd (opens BadHead stands (front stood))
-        finds (Stands p es) stands stood = sent-finds X N path.names h h2 (range_at offset count path.names es) r done sent (λ other. answer p es (opens (Stands p es) stands (front stood)) (back stood) other)
+        finds NoHead stands stood = absurd (o.opens NoHead stands (front stood))
+        finds BadHead stands stood = absurd (o.opens BadHead stands (front stood))
+        finds (Stands p es) stands stood = sent-finds X N path.names h h2 (range_at offset count path.names es) r done sent (λ other. answer p es (o.opens (Stands p es) stands (front stood)) (back stood) other)
 
         by-kind : IsBlaming (refusal_fault done) → t0 < t2
-        by-kind = (counts-then up (sent-touched r done t1 t2 sent touched)).risen
+        by-kind = (counts-then o.touched (sent-touched r done t1 t2 sent touched)).risen
 
         bad-of-read : {role : Role} {bytes : List ℕ} → IsBadRead X N a.told found.root.cid role bytes → IsBadIn X N a.told b.told role bytes
-        bad-of-read (inl bad) = inl (record { head = head_of found; is_told = head; bad = bad })
+        bad-of-read (inl bad) = inl (record { head = head_of found; is_told = o.head; bad = bad })
         bad-of-read (inr bad) = inr (inl bad)
 
         same-writes : WritesAs X NoWrites (is_done (ended done)) a.told b.told

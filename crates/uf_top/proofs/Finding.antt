@@ -21,8 +21,8 @@ use Rattle.uf_command.specs.Kinds.{IsOf, RefusalKind, OfMissing, OfBadBlock, OfS
 use Rattle.uf_command.specs.Commands.{IsOfWords}
 use Rattle.uf_top.specs.Endings.{FindsAll}
 use Rattle.uf_top.specs.Answering.{Answers}
-use Rattle.uf_plain.specs.Files.{read}
-use Rattle.uf_top.specs.Reply.{Reply, in_tree, looked, moved, tree_reply, read_reply}
+use Rattle.uf_top.specs.Opening.{OpensStanding}
+use Rattle.uf_top.specs.Reply.{Reply, in_tree, looked, moved, tree_reply}
 use Rattle.uf_edits.specs.Edits.{edited_by}
 use Rattle.uf_command.specs.Statuses.{ended}
 
@@ -110,13 +110,13 @@ module _ (X : List ℕ → List ℕ) (N : List ℕ → ℕ) where
   pub at-whole : (s : Standing) (ask : Ask) (names : List (List ℕ)) (r : Result (List ℕ) Refusal) (now : Told) → Answers X N s (in_tree (tree_reply X N ask names) s) r now → Finds r
   at-whole s ask names r now h = answered s (in_tree (tree_reply X N ask names) s) r now h (in-tree-finds ask names s)
 
-  in-read-finds : (offset count : ℕ) (names : List (List ℕ)) (s : Standing) → Finds (in_tree (read_reply offset count names) s).ends
-  in-read-finds offset count names NoHead = unready-finds
-  in-read-finds offset count names BadHead = unready-finds
-  in-read-finds offset count names (Stands p es) = looked-finds (Stands p es) names (λ (bytes : List ℕ). bytes) (read offset count names es)
-
-  pub read-whole : (s : Standing) (offset count : ℕ) (names : List (List ℕ)) (r : Result (List ℕ) Refusal) (now : Told) → Answers X N s (in_tree (read_reply offset count names) s) r now → Finds r
-  read-whole s offset count names r now h = answered s (in_tree (read_reply offset count names) s) r now h (in-read-finds offset count names s)
+  -- a tree that isn't opened
+  pub unopened-whole : (s : Standing) (why : Refusal) (now : Told) → OpensStanding X N now s (Err why) → Finds (Err why)
+  unopened-whole NoHead why now (inl e) = subst (λ w. Finds (Err w)) (sym e) memory-finds
+  unopened-whole NoHead why now (inr e) = subst (λ w. Finds (Err w)) (sym e) unready-finds
+  unopened-whole BadHead why now (inl e) = subst (λ w. Finds (Err w)) (sym e) memory-finds
+  unopened-whole BadHead why now (inr e) = subst (λ w. Finds (Err w)) (sym e) unready-finds
+  unopened-whole (Stands p es) why now e = subst (λ w. Finds (Err w)) (sym e) memory-finds
 
   -- ---- what changes nothing writes nothing
 

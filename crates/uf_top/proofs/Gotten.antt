@@ -28,14 +28,12 @@ use Rattle.uf_store.specs.Faults.{NoneIsBad, Shown}
 use Rattle.uf_store.specs.Seen.{Seen}
 use Rattle.uf_store.specs.declared.store.StoreFault.TheVariants as fault
 use Rattle.uf_store.proofs.Calls.{shown-by}
-use Rattle.uf_store.proofs.Keeping.{KeepsGood-same}
 use Rattle.uf_tree.specs.Tree.{Entries, Tree}
 use Rattle.uf_tree.specs.declared.profile.Profile.{Profile}
 use Rattle.uf_varint.specs.Fields.{◌>>=◌}
 use Rattle.uf_command.specs.Dags.{IsToldAs, by_dag, dag_refusal, tree_at, usual_limits}
 use Rattle.uf_command.specs.Kinds.{get_kinds, IsOf, fault_behind, may_close, refusal_fault, refusal_kind}
 use Rattle.uf_command.specs.Statuses.{ended, no_memory, status_of}
-use Rattle.uf_command.specs.declared.status.Status.TheVariants as status
 use Rattle.uf_command.specs.declared.types.Command.TheVariants.{Get}
 use Rattle.uf_command.specs.declared.types.HostRule.TheVariants as rules
 use Rattle.uf_command.specs.declared.types.Refusal.{Refusal}
@@ -521,7 +519,7 @@ module _ (X : List ℕ → List ℕ) (N : List ℕ → ℕ) (source : DagPath) (
       touched = λ blames. absurd (so.blames blames);
       unready = λ e is. absurd cc;
       unplaced = λ p es names stood none. absurd none;
-      leaves = record { good = KeepsGood-same X a.told b.told same; head = so.head; writes = same; idle = λ p es bytes stands calm is. absurd cc };
+      leaves = record { head = so.head; writes = same; idle = λ p es bytes stands calm is. absurd cc };
     }
       where
         each-told : (A : Lookup → Type 0) → ((held : Lookup) → Gets held source path s.told t.told done → A held) → IfSome a.told (λ c. A (held_at c))

@@ -21,7 +21,6 @@ use Rattle.uf_store.specs.Seen.{Seen}
 use Rattle.uf_store.specs.declared.store.StoreFault.{StoreFault}
 use Rattle.uf_store.specs.declared.store.StoreFault.TheVariants.{Failed, Damaged, Missing, BadBlock, Clash, Memory}
 use Rattle.uf_store.proofs.Calls.{shown-after, stood-back}
-use Rattle.uf_store.proofs.Keeping.{KeepsGood-same}
 use Rattle.uf_store.proofs.Writing.{SavesOnly-refl}
 use Rattle.uf_tree.specs.Profiles.{usual}
 use Rattle.uf_tree.specs.Standing.{Standing, NoHead, BadHead, Stands}
@@ -346,7 +345,7 @@ module _ (X : List ℕ → List ℕ) (N : List ℕ → ℕ) where
           touched = λ blames. absurd (host-blames (Err why) (head-kind a.told why end) blames);
           unready = λ e is. record { told = told; left = refl; reads = refl };
           unplaced = λ p es names stood none. absurd none;
-          leaves = record { good = KeepsGood-same X a.told m.told told; head = ap head_in told; writes = from-same X recursive only_hash path a.told m.told told; idle = λ p es bytes stands calm same. absurd cc };
+          leaves = record { head = ap head_in told; writes = from-same X recursive only_hash path a.told m.told told; idle = λ p es bytes stands calm same. absurd cc };
         }
 
     -- there is none, where one is needed
@@ -368,7 +367,7 @@ module _ (X : List ℕ → List ℕ) (N : List ℕ → ℕ) where
       touched = λ blames. absurd blames;
       unready = λ e is. record { told = told; left = refl; reads = refl };
       unplaced = λ p es names stood none. absurd none;
-      leaves = record { good = KeepsGood-same X a.told m.told told; head = ap head_in told; writes = from-same X recursive false path a.told m.told told; idle = λ p es bytes stands calm same. absurd cc };
+      leaves = record { head = ap head_in told; writes = from-same X recursive false path a.told m.told told; idle = λ p es bytes stands calm same. absurd cc };
     }
 
     module _ (calm : StaysCalm a m) (r : Result (List ℕ) Refusal) (side2 : HostSide) (reads : OnlyReadsHost (is_read r) side side2) where
@@ -406,7 +405,7 @@ module _ (X : List ℕ → List ℕ) (N : List ℕ → ℕ) where
             touched = λ blames. absurd (host-blames r kinds blames);
             unready = λ e is. absurd (text-unready p b.told side.told recursive path r text is);
             unplaced = λ p es names stood none. absurd none;
-            leaves = record { good = keeps; head = stays-same r a.told b.told head; writes = written; idle = λ q es bytes stands calm same. absurd cc };
+            leaves = record { head = stays-same r a.told b.told head; writes = written; idle = λ q es bytes stands calm same. absurd cc };
           }
 
       -- its rows are made, and nothing is kept
@@ -440,7 +439,7 @@ module _ (X : List ℕ → List ℕ) (N : List ℕ → ℕ) where
             touched = λ blames. absurd (host-blames r kinds blames);
             unready = λ e is. absurd (text-unready p None side.told recursive path r text is);
             unplaced = λ p es names stood none. absurd none;
-            leaves = record { good = KeepsGood-same X a.told m.told told; head = stays-same r a.told m.told (ap head_in told); writes = told; idle = λ q es bytes stands calm same. absurd cc };
+            leaves = record { head = stays-same r a.told m.told (ap head_in told); writes = told; idle = λ q es bytes stands calm same. absurd cc };
           }
 
 -- ---- from the answer of the import to the text

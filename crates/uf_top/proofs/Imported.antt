@@ -318,7 +318,7 @@ module _ (X : List ℕ → List ℕ) (N : List ℕ → ℕ) (a b : Seen) (l m : 
         touched = λ blames. absurd (of.blames blames);
         unready = λ e is. absurd cc;
         unplaced = λ p es names stood none. absurd none;
-        leaves = record { good = k.good; head = head; writes = subst (λ d. WritesAs X SyncsBlocks d a.told b.told) (sym quiet.undone) k.writes; idle = λ p es bytes stands calm is. absurd cc };
+        leaves = record { head = head; writes = subst (λ d. WritesAs X SyncsBlocks d a.told b.told) (sym quiet.undone) k.writes; idle = λ p es bytes stands calm is. absurd cc };
       }
     where
       answered : (world : World) → IsSome a.told → (◌≡◌ {A = Result (List ℕ) Refusal} (Err why) (Err no_memory)) ⊎ TellsRoots (car_read X most_car world.input) (Err why) b.told → DoesAnswer X N Import world (Err why) h h b.told side.told
@@ -364,7 +364,7 @@ module _ (X : List ℕ → List ℕ) (N : List ℕ → ℕ) (a b : Seen) (l m : 
       touched = λ blames. absurd blames;
       unready = λ e is. absurd cc;
       unplaced = λ p es names stood none. absurd none;
-      leaves = record { good = k.good; head = tt; writes = k.writes; idle = λ p es bytes stands calm is. absurd cc };
+      leaves = record { head = tt; writes = k.writes; idle = λ p es bytes stands calm is. absurd cc };
     }
       where
         answered : (world : World) → IsSome a.told → (◌≡◌ {A = Result (List ℕ) Refusal} (Ok text) (Err no_memory)) ⊎ TellsRoots (car_read X most_car world.input) (Ok text) b.told → DoesAnswer X N Import world (Ok tt) h h2 b.told side.told
@@ -399,7 +399,7 @@ module _ (X : List ℕ → List ℕ) (N : List ℕ → ℕ) (a b : Seen) (l m : 
       touched = λ blames. absurd blames;
       unready = λ e is. absurd cc;
       unplaced = λ p es names stood none. absurd none;
-      leaves = record { good = k.good; head = head-same; writes = k.writes; idle = λ p es bytes stands calm is. absurd cc };
+      leaves = record { head = head-same; writes = k.writes; idle = λ p es bytes stands calm is. absurd cc };
     }
 
     -- or the output failed

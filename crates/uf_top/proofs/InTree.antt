@@ -3,7 +3,7 @@ use Rattle.std.proofs.Common.{◌≡◌, ℕ, List, [], ◌∷◌, false, refl, 
 use Rattle.std.specs.Prelude.{IfOk, IfSome}
 use Rattle.uf_mfs.specs.Answers as tree
 use Rattle.uf_mfs.specs.Moving.{Gives}
-use Rattle.uf_mfs.specs.Standing.{FindsHead, Inits, IsUnready, IsWanting, Opens, ReadsHead, StandsAt, TellsAs, head_in}
+use Rattle.uf_mfs.specs.Standing.{FindsHead, Inits, IsUnready as IsTreeUnready, IsWanting, ReadsHead, StandsAt, TellsAs, head_in}
 use Rattle.uf_mfs.specs.declared.mfs.Mfs.{Mfs}
 use Rattle.uf_mfs.specs.declared.fault.MfsFault.{MfsFault}
 use Rattle.uf_mfs.specs.declared.fault.MfsFault.TheVariants as mfs
@@ -18,20 +18,19 @@ use Rattle.uf_tree.specs.Tree.{Dir, Tree, Entries}
 use Rattle.uf_tree.specs.TreePlan.{entry}
 use Rattle.uf_tree.specs.declared.head_fault.HeadFault.{HeadFault}
 use Rattle.uf_tree.specs.declared.profile.Profile.{Profile}
-use Rattle.uf_path.specs.declared.path.Path.{Path}
-use Rattle.uf_top.specs.Causes.{HeadStays, IsMade, IsReady, IsReason, IsUnread, RefusesInTree, RefusesOpening}
+use Rattle.uf_top.specs.Causes.{HeadStays, IsMade, IsReady, IsReason, IsReasonInTree, IsUnread, RefusesInTree, RefusesOpening}
 use Rattle.uf_top.specs.Answering.{Answers}
+use Rattle.uf_top.specs.Opening.{IsUnopened, IsUnready, OpensStanding}
 use Rattle.uf_top.specs.Reply.{Reply, in_tree, init_reply, looked, moved, not_ready, refused}
 use Rattle.uf_command.specs.Statuses.{no_memory}
-use Rattle.uf_command.specs.declared.types.Ask.{Ask}
-use Rattle.uf_command.specs.declared.types.Command.TheVariants.{Init, At}
+use Rattle.uf_command.specs.declared.types.Command.TheVariants.{Init}
 use Rattle.uf_command.specs.declared.types.Refusal.{Refusal}
 use Rattle.uf_command.specs.declared.types.Refusal.TheVariants as refusal
 use Rattle.uf_top.proofs.Notes.{note-text}
 use Rattle.uf_top.proofs.Standings.{tells-none}
 
 -- want of memory, as a refusal
-opening-wants : (f : MfsFault) (w : Refusal) → RefusesOpening f w → IsWanting f → w ≡ no_memory
+pub opening-wants : (f : MfsFault) (w : Refusal) → RefusesOpening f w → IsWanting f → w ≡ no_memory
 opening-wants (mfs.Rule rule) w is h = absurd h
 opening-wants (mfs.Ready why) w is h = absurd h
 opening-wants mfs.Sink w is h = absurd h
@@ -43,6 +42,13 @@ tree-wants (mfs.Ready why) w is h = absurd h
 tree-wants mfs.Sink w is h = absurd h
 tree-wants (mfs.Store f) w is h = is ∙ ap refusal.Store h
 
+-- so of a store that isn't ready
+pub unready-by : (why : Ready) (f : MfsFault) (w : Refusal) → RefusesOpening f w → IsTreeUnready (mfs.Ready why) f → IsUnready {A = Mfs} why (Err w)
+unready-by why (mfs.Rule rule) w is h = absurd h
+unready-by why (mfs.Ready given) w is h = let same : given ≡ why = cc in inr (is ∙ ap refusal.Ready same)
+unready-by why mfs.Sink w is h = absurd h
+unready-by why (mfs.Store f) w is h = inl (is ∙ ap refusal.Store h)
+
 bad-there : (head : Option (List ℕ)) → IsBadHead head → (text : List ℕ) × (head ≡ Some text)
 bad-there None b = absurd b
 bad-there (Some text) b = (text, refl)
@@ -52,22 +58,18 @@ module _ (X : List ℕ → List ℕ) (N : List ℕ → ℕ) where
   wants s reply why told is stands = inl (record { ends_are = ap (λ (w : Refusal). Err w) is; stands = stands })
 
   -- the store isn't ready, or memory is wanting
-  unready : (s : Standing) (why : Ready) (f : MfsFault) (w : Refusal) (told : Told) → RefusesOpening f w → IsUnready (mfs.Ready why) f → TellsAs X N told s → Answers X N s (not_ready s why) (Err w) told
-  unready s why (mfs.Rule rule) w told is h stands = absurd h
-  unready s why (mfs.Ready given) w told is h stands =
-      let same : given ≡ why = cc in
-      inr (record { ends_are = ap (λ (w : Refusal). Err w) (is ∙ ap refusal.Ready same); stands = stands; held = tells-none X N told s stands })
-  unready s why mfs.Sink w told is h stands = absurd h
-  unready s why (mfs.Store f) w told is h stands = wants s (not_ready s why) w told (is ∙ ap refusal.Store h) stands
+  unready : (s : Standing) (why : Ready) (w : Refusal) (told : Told) → IsUnready {A = Mfs} why (Err w) → TellsAs X N told s → Answers X N s (not_ready s why) (Err w) told
+  unready s why w told (inl wanting) stands = wants s (not_ready s why) w told wanting stands
+  unready s why w told (inr is) stands = inr (record { ends_are = ap (λ (w : Refusal). Err w) is; stands = stands; held = tells-none X N told s stands })
 
   -- the tree isn't opened
-  pub not-opened : (s : Standing) (say : Profile → Entries → Reply) (f : MfsFault) (w : Refusal) (told : Told) → RefusesOpening f w → Opens X N told s (Err f) → TellsAs X N told s → Answers X N s (in_tree say s) (Err w) told
-  not-opened NoHead say f w told is h stands = unready NoHead ready.NoHead f w told is h stands
-  not-opened BadHead say f w told is h stands = unready BadHead ready.BadHead f w told is h stands
-  not-opened (Stands p es) say f w told is h stands = wants (Stands p es) (say p es) w told (opening-wants f w is h) stands
+  pub not-opened : (s : Standing) (say : Profile → Entries → Reply) (w : Refusal) (told : Told) → OpensStanding X N told s (Err w) → TellsAs X N told s → Answers X N s (in_tree say s) (Err w) told
+  not-opened NoHead say w told h stands = unready NoHead ready.NoHead w told h stands
+  not-opened BadHead say w told h stands = unready BadHead ready.BadHead w told h stands
+  not-opened (Stands p es) say w told h stands = wants (Stands p es) (say p es) w told h stands
 
   -- the tree is opened
-  pub opened : (s : Standing) (say : Profile → Entries → Reply) (m : Mfs) (mid now : Told) (r : Result (List ℕ) Refusal) → Opens X N mid s (Ok m) → TellsAs X N mid s
+  pub opened : (s : Standing) (say : Profile → Entries → Reply) (m : Mfs) (mid now : Told) (r : Result (List ℕ) Refusal) → OpensStanding X N mid s (Ok m) → TellsAs X N mid s
       → ((p : Profile) (es : Entries) → StandsAt X N mid m p es → TellsAs X N mid (Stands p es) → Answers X N (Stands p es) (say p es) r now)
       → Answers X N s (in_tree say s) r now
   opened NoHead say m mid now r h stands go = absurd h
@@ -77,8 +79,8 @@ module _ (X : List ℕ → List ℕ) (N : List ℕ → ℕ) where
   -- the store isn't made ready
   init-err : (s : Standing) (p : Profile) (a : Contents) (f : MfsFault) (w : Refusal) (b : Told) → RefusesOpening f w → TellsAs X N (Some a) s → Inits X N b p a.notes.head (Err f) → TellsAs X N b s → Answers X N s (init_reply X N p s) (Err w) b
   init-err NoHead p a f w b is stands h now = wants NoHead (init_reply X N p NoHead) w b (opening-wants f w is (subst (λ head. Inits X N b p head (Err f)) stands h)) now
-  init-err BadHead p a f w b is stands h now = (let t = bad-there a.notes.head stands in unready BadHead ready.HeadThere f w b is (subst (λ head. Inits X N b p head (Err f)) t.1 h) now)
-  init-err (Stands q es) p a f w b is stands h now = (let t = note-text a.notes.head q (entry X N q (Dir es)).cid stands.head_is in unready (Stands q es) ready.HeadThere f w b is (subst (λ head. Inits X N b p head (Err f)) t.1 h) now)
+  init-err BadHead p a f w b is stands h now = (let t = bad-there a.notes.head stands in unready BadHead ready.HeadThere w b (unready-by ready.HeadThere f w is (subst (λ head. Inits X N b p head (Err f)) t.1 h)) now)
+  init-err (Stands q es) p a f w b is stands h now = (let t = note-text a.notes.head q (entry X N q (Dir es)).cid stands.head_is in unready (Stands q es) ready.HeadThere w b (unready-by ready.HeadThere f w is (subst (λ head. Inits X N b p head (Err f)) t.1 h)) now)
 
   pub inits-err : (A B : Type 0) (s : Standing) (p : Profile) (a : Told) (f : MfsFault) (w : Refusal) (b : Told) → RefusesOpening f w → A → B → TellsAs X N a s → IfSome a (λ t. A → B → Inits X N b p t.notes.head (Err f)) → TellsAs X N b s
       → Answers X N s (init_reply X N p s) (Err w) b
@@ -151,17 +153,17 @@ unread-of : (head : Option (List ℕ)) (text : List ℕ) (why : HeadFault) → h
 unread-of None text why is unread = absurd cc
 unread-of (Some given) text why is unread = (why, (let same : given ≡ text = cc in ap head_reads same ∙ unread))
 
-opening-reason : (told : Told) (ask : Ask) (path : Path) (why : Ready) → ReadsHead told (Err (mfs.Ready why)) → IsReason (At ask path) why told
-opening-reason told ask path ready.NoHead h = h
-opening-reason told ask path ready.HeadThere h = h
-opening-reason None ask path ready.BadHead h = tt
-opening-reason (Some t) ask path ready.BadHead h = unread-of t.notes.head h.0 h.1 h.2 h.3
+opening-reason : (told : Told) (why : Ready) → ReadsHead told (Err (mfs.Ready why)) → IsReasonInTree why told
+opening-reason told ready.NoHead h = h
+opening-reason told ready.HeadThere h = h
+opening-reason None ready.BadHead h = tt
+opening-reason (Some t) ready.BadHead h = unread-of t.notes.head h.0 h.1 h.2 h.3
 
-pub opening-ready : (told : Told) (ask : Ask) (path : Path) (f : MfsFault) (w : Refusal) → RefusesOpening f w → ReadsHead told (Err f) → IsReady {A = List ℕ} told (At ask path) (Err w)
-opening-ready told ask path (mfs.Rule rule) w is h = absurd is
-opening-ready told ask path (mfs.Ready why) w is h = subst (λ w. IsReady {A = List ℕ} told (At ask path) (Err w)) (sym is) (opening-reason told ask path why h)
-opening-ready told ask path mfs.Sink w is h = absurd is
-opening-ready told ask path (mfs.Store f) w is h = subst (λ w. IsReady {A = List ℕ} told (At ask path) (Err w)) (sym is) tt
+pub unopened-by : (told : Told) (f : MfsFault) (w : Refusal) → RefusesOpening f w → ReadsHead told (Err f) → IsUnopened told w
+unopened-by told (mfs.Rule rule) w is h = absurd is
+unopened-by told (mfs.Ready why) w is h = inl (why, opening-reason told why h, is)
+unopened-by told mfs.Sink w is h = absurd is
+unopened-by told (mfs.Store f) w is h = inr (f, is)
 
 init-reason : (told : Told) (p : Profile) (why : Ready) → FindsHead told (Err (mfs.Ready why)) → IsReason (Init p) why told
 init-reason told p ready.NoHead h = h

@@ -12,7 +12,6 @@ use Rattle.uf_store.specs.Keeping.{KeepsGood}
 use Rattle.uf_store.specs.Seen.{Seen}
 use Rattle.uf_store.specs.Writing.{SavesOnly}
 use Rattle.uf_store.proofs.Calls.{shown-after, stood-back}
-use Rattle.uf_store.proofs.Keeping.{KeepsGood-same}
 use Rattle.uf_store.proofs.Writing.{SavesOnly-refl}
 use Rattle.uf_tree.specs.Standing.{Stands}
 use Rattle.uf_tree.specs.Validity.{IsHash}
@@ -86,7 +85,7 @@ module _ (X : List ℕ → List ℕ) (hash : IsHash X) (N : List ℕ → ℕ) (a
     touched = λ blames. absurd (add-blames (Err why) (read-kinds why a.told read) blames);
     unready = λ e is. record { told = told; left = refl; reads = refl };
     unplaced = λ p es names stood none. absurd none;
-    leaves = record { good = KeepsGood-same X a.told m.told told; head = ap head_in told; writes = add-same X only_hash a.told m.told told; idle = λ p es bytes stands calm same. told };
+    leaves = record { head = ap head_in told; writes = add-same X only_hash a.told m.told told; idle = λ p es bytes stands calm same. told };
   }
 
   -- there is none, where one is needed
@@ -107,7 +106,7 @@ module _ (X : List ℕ → List ℕ) (hash : IsHash X) (N : List ℕ → ℕ) (a
     touched = λ blames. absurd blames;
     unready = λ e is. record { told = told; left = refl; reads = refl };
     unplaced = λ p es names stood none. absurd none;
-    leaves = record { good = KeepsGood-same X a.told m.told told; head = ap head_in told; writes = add-same X false a.told m.told told; idle = λ p es bytes stands calm same. told };
+    leaves = record { head = ap head_in told; writes = add-same X false a.told m.told told; idle = λ p es bytes stands calm same. told };
   }
 
   module _ (calm : StaysCalm a m) (r : Result (List ℕ) Refusal) (k : streams.Told) (j : ℕ) (counts : Counts (is_read r) i j) where
@@ -144,7 +143,7 @@ module _ (X : List ℕ → List ℕ) (hash : IsHash X) (N : List ℕ → ℕ) (a
           touched = λ blames. absurd (add-blames r (row-kinds X p b.told r l k row) blames);
           unready = λ e is. absurd (row-unready X p b.told r l k row is);
           unplaced = λ p es names stood none. absurd none;
-          leaves = record { good = good; head = stays-same r a.told b.told head; writes = written; idle = λ q es bytes stands calm same. absurd cc };
+          leaves = record { head = stays-same r a.told b.told head; writes = written; idle = λ q es bytes stands calm same. absurd cc };
         }
 
     -- the input's row is made, and nothing is kept
@@ -176,5 +175,5 @@ module _ (X : List ℕ → List ℕ) (hash : IsHash X) (N : List ℕ → ℕ) (a
           touched = λ blames. absurd (add-blames r (row-kinds X p None r l k row) blames);
           unready = λ e is. absurd (row-unready X p None r l k row is);
           unplaced = λ p es names stood none. absurd none;
-          leaves = record { good = KeepsGood-same X a.told m.told told; head = stays-same r a.told m.told (ap head_in told); writes = told; idle = λ q es bytes stands calm same. told };
+          leaves = record { head = stays-same r a.told m.told (ap head_in told); writes = told; idle = λ q es bytes stands calm same. told };
         }

@@ -16,17 +16,13 @@ use Rattle.uf_light.specs.Standing.{IsAgreedAt}
 use Rattle.uf_light.specs.Touches as touching
 use Rattle.uf_light.specs.declared.fault.LightFault.{LightFault}
 use Rattle.uf_light.specs.declared.fault.LightFault.TheVariants as light
-use Rattle.uf_mfs.specs.Answers.{ShownOpening}
 use Rattle.uf_cid.specs.declared.cid.Cid.{Cid}
 use Rattle.uf_mfs.specs.Bad.{IsBad, IsBadInHead, IsBadInTree}
 use Rattle.uf_mfs.specs.Bad as trees
 use Rattle.uf_light.proofs.Needed.{needs-among, proves-among, same-shown}
 use Rattle.uf_mfs.specs.Reading.{AreHeights, CanRise}
-use Rattle.uf_mfs.specs.Standing.{NamesOver, Opens, OpensOver, ReadsHead, StandsOver, TellsAs, TellsHeld, head_in}
-use Rattle.uf_mfs.specs.Steps.{tree_fault}
-use Rattle.uf_mfs.specs.Touches.{CountsUp, IsBlaming}
-use Rattle.uf_mfs.specs.declared.fault.MfsFault.{MfsFault}
-use Rattle.uf_mfs.specs.declared.fault.MfsFault.TheVariants as mfs
+use Rattle.uf_mfs.specs.Standing.{NamesOver, StandsOver, TellsAs, TellsHeld, head_in}
+use Rattle.uf_mfs.specs.Touches.{IsBlaming}
 use Rattle.uf_mfs.specs.declared.mfs.Mfs.{Mfs}
 use Rattle.uf_mfs.proofs.Holding.{loss-back, loss-fault}
 use Rattle.uf_mfs.proofs.Ranges.{stood-calm}
@@ -46,7 +42,6 @@ use Rattle.uf_store.specs.declared.store.StoreFault.{StoreFault}
 use Rattle.uf_store.specs.declared.store.StoreFault.TheVariants as fault
 use Rattle.uf_store.proofs.Calls.{shown-after, shown-by, shown-rises, stood-back, stood-front}
 use Rattle.uf_store.proofs.Causes.{calm-memory}
-use Rattle.uf_store.proofs.Keeping.{KeepsGood-same}
 use Rattle.uf_tree.specs.Standing.{Standing, NoHead, BadHead, Stands}
 use Rattle.uf_tree.specs.Profiles.{is_profile}
 use Rattle.uf_tree.specs.Tree.{Dir, Entries, File, Tree}
@@ -54,47 +49,32 @@ use Rattle.uf_tree.specs.TreePlan.{blocks}
 use Rattle.uf_tree.specs.declared.nodes.Entry.{Entry}
 use Rattle.uf_tree.specs.declared.profile.Profile.{Profile}
 use Rattle.uf_command.specs.Natures.{NoWrites}
-use Rattle.uf_command.specs.Kinds.{refusal_fault}
-use Rattle.uf_command.specs.Statuses.{ended, no_memory, status_of}
-use Rattle.uf_command.specs.declared.types.Ask.TheVariants.{Stat}
-use Rattle.uf_command.specs.declared.types.Command.TheVariants.{At, Prove}
+use Rattle.uf_command.specs.Kinds.{fault_behind, refusal_fault}
+use Rattle.uf_command.specs.Statuses.{ended, no_memory}
+use Rattle.uf_command.specs.declared.types.Command.TheVariants.{Prove}
 use Rattle.uf_command.specs.declared.types.Refusal.{Refusal}
 use Rattle.uf_command.specs.declared.types.Refusal.TheVariants as refusal
-use Rattle.uf_top.specs.Answering.{Answers, DoesReply, DoesWant}
+use Rattle.uf_top.specs.Answering.{DoesReply, DoesWant}
 use Rattle.uf_top.specs.Around.{HostSide, RisesFor, SinkSide, around}
-use Rattle.uf_top.specs.Causes.{IsBadIn, IsReadyBy, RefusesOpening, is_write}
+use Rattle.uf_top.specs.Causes.{IsBadIn, IsReadyBy, is_write}
 use Rattle.uf_top.specs.Endings.{EndsBy, FindsAll, PrintsPart}
 use Rattle.uf_top.specs.Light.{EndsLight, IsLightTold, height_found, light_refusal, proof_told}
 use Rattle.uf_top.specs.Losing.{DoesOver, rows_found}
 use Rattle.uf_top.specs.Naming.{NamesAfter, NamesAs}
+use Rattle.uf_top.specs.Opening.{OpensTree}
 use Rattle.uf_top.specs.Reply.{in_tree, prove_reply, unchanged}
 use Rattle.uf_top.specs.Shapes.{WritesAs, is_done}
 use Rattle.uf_top.specs.Working.{Does, Makes}
-use Rattle.uf_top.proofs.Classed.{opening-kinds, tree-counts}
+use Rattle.uf_top.proofs.Classed.{tree-counts, unopened-kinds}
 use Rattle.uf_top.proofs.FileSent.{BySink, ByRule, ByStore, SentKind, Whole, height-of, if-err, none-printed, sent-kinds, sent-prints, sent-ready, sent-reads}
-use Rattle.uf_top.proofs.InTree.{not-opened, opening-ready}
+use Rattle.uf_top.proofs.Finding.{unopened-whole}
+use Rattle.uf_top.proofs.InTree.{not-opened}
 use Rattle.uf_top.proofs.Losing.{names-of, names-same, opening-over}
 use Rattle.uf_top.proofs.Printing.{of-no-host, refused-does}
-use Rattle.uf_top.proofs.Shows.{Shown-opening, bad-of-none, head_of, none-long, opening-touched}
+use Rattle.uf_top.proofs.Refusing.{by-unopened}
+use Rattle.uf_top.proofs.Shows.{bad-of-none, head_of, none-long}
 use Rattle.uf_top.proofs.Standings.{stands-same, tells-none}
 use Rattle.uf_top.proofs.Tall.{found-tall}
-
--- the reason that holds of one command on the tree holds of another
-ready-prove : (absent : Bool) (path : Path) (told : Told) (w : Refusal) → IsReadyBy told (At Stat path) w → IsReadyBy told (Prove absent path) w
-ready-prove absent path told (refusal.Rule rule) h = tt
-ready-prove absent path told (refusal.Dag rule) h = tt
-ready-prove absent path told (refusal.Car number place) h = tt
-ready-prove absent path told (refusal.CarLacks cid) h = tt
-ready-prove absent path told (refusal.OwnClash cid first second) h = tt
-ready-prove absent path told (refusal.Host rule) h = tt
-ready-prove absent path told (refusal.BadPath why) h = tt
-ready-prove absent path told refusal.InputTooLong h = tt
-ready-prove absent path told refusal.BadPins h = tt
-ready-prove absent path told refusal.Usage h = tt
-ready-prove absent path told (refusal.Ready why) h = h
-ready-prove absent path told refusal.Read h = tt
-ready-prove absent path told refusal.Write h = tt
-ready-prove absent path told (refusal.Store f) h = tt
 
 -- ---- how it ended
 
@@ -279,54 +259,40 @@ held-of : (X : List ℕ → List ℕ) (N : List ℕ → ℕ) (told : Told) (p : 
 held-of X N None p es stands = absurd stands
 held-of X N (Some t) p es stands = stands.blocks_held
 
-module _ (X : List ℕ → List ℕ) (N : List ℕ → ℕ) (absent : Bool) (path : Path) (a m : Seen) (told : m.told ≡ a.told) (l : streams.Told) (i : ℕ) (h : streams.Told) (w t0 t1 : ℕ) (side : HostSide) (er er2 : SinkSide) where
+module _ (X : List ℕ → List ℕ) (N : List ℕ → ℕ) (absent : Bool) (path : Path) (a m : Seen) (l : streams.Told) (i : ℕ) (h : streams.Told) (w t0 t1 : ℕ) (side : HostSide) (er er2 : SinkSide) where
   -- ---- the tree isn't opened
 
-  pub prove-unopened : (f : MfsFault) (why : Refusal) → RefusesOpening f why → ((s : Standing) → TellsAs X N a.told s → Stood a.faults m.faults → Opens X N m.told s (Err f))
-      → ((p : Profile) (es : Entries) → NamesOver X N a.told p es → Stood a.faults m.faults → OpensOver X N a.told p es (Err f))
-      → ReadsHead a.told (Err f) → t1 ≤ t0 + 1 → CountsUp (tree_fault {A = Mfs} (Err f)) t0 t1 → ShownOpening X (IsBadInHead X N a.told) {A = Mfs} (Err f) a m
-      → Does X N (Prove absent path) (Err why) (around a l i h w t0 side er) (around m l i h w t1 side er2)
-  prove-unopened f why is opens lost head most up cause = refused-does X N (Prove absent path) refl a m l l i i t0 t1 h w side side er er2 why makes
+  pub prove-unopened : (why : Refusal) → OpensTree X N (Err why) a m t0 t1 → Does X N (Prove absent path) (Err why) (around a l i h w t0 side er) (around m l i h w t1 side er2)
+  prove-unopened why o = refused-does X N (Prove absent path) refl a m l l i i t0 t1 h w side side er er2 why makes
     where
-      whole : (s : Standing) → Answers X N s (in_tree (prove_reply X N absent path.names) s) (Err why) m.told → Opens X N m.told s (Err f) → FindsAll (status_of why)
-      whole s given h = by f why is s h
-        where
-          by : (f : MfsFault) (why : Refusal) → RefusesOpening f why → (s : Standing) → Opens X N m.told s (Err f) → FindsAll (status_of why)
-          by (mfs.Rule rule) why is s h = absurd is
-          by (mfs.Ready ready) why is s h = subst (λ g. FindsAll (status_of g)) (sym is) (λ e. cc, λ e. cc)
-          by mfs.Sink why is s h = absurd is
-          by (mfs.Store g) why is NoHead h = subst (λ x. FindsAll (status_of x)) (sym (is ∙ ap refusal.Store h)) (λ e. cc, λ e. cc)
-          by (mfs.Store g) why is BadHead h = subst (λ x. FindsAll (status_of x)) (sym (is ∙ ap refusal.Store h)) (λ e. cc, λ e. cc)
-          by (mfs.Store g) why is (Stands p es) h = subst (λ x. FindsAll (status_of x)) (sym (is ∙ ap refusal.Store h)) (λ e. cc, λ e. cc)
+      told : m.told ≡ a.told
+      told = o.reads.told
 
       makes : Makes X N (Prove absent path) (Err why) (around a l i h w t0 side er) (around m l i h w t1 side er2)
       makes = record {
-        answers = λ world stands input calm. not-opened X N world.standing (prove_reply X N absent path.names) f why m.told is (opens world.standing stands calm.faults) (stands-same X N a.told m.told world.standing told stands);
+        answers = λ world stands input calm. not-opened X N world.standing (prove_reply X N absent path.names) why m.told (o.opens world.standing stands calm.faults) (stands-same X N a.told m.told world.standing told stands);
         lost = λ p es rows held bytes named input calm.
-            opening-over X N a.told m.told p es (proof_needs X N p (rows_found rows (at 0 path.names (Dir es))) absent path.names (Dir es)) (prove_reply X N absent path.names p es) f why is (lost p es named.names calm.faults)
+            opening-over X N a.told m.told p es (proof_needs X N p (rows_found rows (at 0 path.names (Dir es))) absent path.names (Dir es)) (prove_reply X N absent path.names p es) why (o.lost p es named.names calm.faults)
             (names-same X N a.told m.told p es told named);
-        kinds = opening-kinds f why is;
-        ready = ready-prove absent path a.told why (opening-ready a.told Stat path f why is head);
+        kinds = unopened-kinds a.told why o.refused;
+        ready = by-unopened (IsReadyBy a.told (Prove absent path)) a.told why (λ reason head. head) (λ f. tt) o.refused;
         adds = tt;
         kept = tt;
-        reads = tree-counts (Err why) i (opening-kinds f why is);
+        reads = tree-counts (Err why) i (unopened-kinds a.told why o.refused);
         host = refl;
         rows = tt;
-        cause = Shown-opening Mfs X (IsBadInHead X N a.told) (IsBadIn X N a.told m.told) (bad-of-none X N a.told m.told) f why a m is cause;
-        touches = λ p es bytes rows named input heights calm. omega (arith, most);
-        whole = λ s stands calm. (let o = opens s stands calm.faults in whole s (not-opened X N s (prove_reply X N absent path.names) f why m.told is o (stands-same X N a.told m.told s told stands)) o);
-        touched = (opening-touched Mfs f why t0 t1 is up).risen;
+        cause = shown-by X (IsBadInHead X N a.told) (IsBadIn X N a.told m.told) (fault_behind why) a m (bad-of-none X N a.told m.told) o.reads.cause;
+        touches = λ p es bytes rows named input heights calm. let one = o.touches in omega (arith, one);
+        whole = λ s stands calm. unopened-whole X N s why m.told (o.opens s stands calm.faults);
+        touched = o.touched.risen;
         unready = λ e is. record { told = told; left = refl; reads = refl };
         unplaced = λ p es names stood none. absurd none;
-        leaves = record { good = KeepsGood-same X a.told m.told told; head = ap head_in told; writes = told; idle = λ p es bytes stands calm same. absurd cc };
+        leaves = record { head = ap head_in told; writes = told; idle = λ p es bytes stands calm same. absurd cc };
       }
 
   -- ---- the tree is opened, and the proof is made
 
-  module _ (found : Mfs) (opens : (s : Standing) → TellsAs X N a.told s → Stood a.faults m.faults → Opens X N m.told s (Ok found))
-      (over : (p : Profile) (es : Entries) → NamesOver X N a.told p es → Stood a.faults m.faults → OpensOver X N a.told p es (Ok found))
-      (head : ReadsHead a.told (Ok found)) (most : t1 ≤ t0 + 1) (up : CountsUp None t0 t1) (calm : StaysCalm a m)
-      (b : Seen) (h2 : streams.Told) (w2 t2 : ℕ) (r : Result ℕ LightFault) (done : Result (Unit {0}) Refusal) (ends : EndsLight path.names r done) (own : IfErr r IsNoCar)
+  module _ (found : Mfs) (o : OpensTree X N (Ok found) a m t0 t1) (b : Seen) (h2 : streams.Told) (w2 t2 : ℕ) (r : Result ℕ LightFault) (done : Result (Unit {0}) Refusal) (ends : EndsLight path.names r done) (own : IfErr r IsNoCar)
       (proves : (p : Profile) (t : Tree) (height : ℕ) → IsAgreedAt X N m.told p found.root.cid t → Stood m.faults b.faults → HasHeight p height (at 0 path.names t)
       → Proves m.told (proof_needs X N p height absent path.names t) (light_text X N p height path.names t) (light_says absent path.names (at 0 path.names t)) r h h2)
       (prefix : (p : Profile) (t : Tree) (height : ℕ) → IsAgreedAt X N m.told p found.root.cid t → CanRise m.faults → HasHeight p height (at 0 path.names t)
@@ -334,8 +300,14 @@ module _ (X : List ℕ → List ℕ) (N : List ℕ → ℕ) (absent : Bool) (pat
       (bytes : List ℕ) (sends : h2 ≡ after h bytes) (cause : Shown X (IsBadLight X N m.told found.root.cid) (light_fault r) m b) (told2 : b.told ≡ m.told)
       (counts : Counts (is_light_sink r) w w2) (touched : touching.IsBlaming (light_fault r) → t1 < t2)
       (few : (p : Profile) (t : Tree) (height : ℕ) → IsAgreedAt X N m.told p found.root.cid t → Stood m.faults b.faults → HasHeight p height (at 0 path.names t) → t2 ≤ t1 + proof_touches X N p height absent path.names t) where
+    told : m.told ≡ a.told
+    told = o.reads.told
+
     same : b.told ≡ a.told
     same = told2 ∙ told
+
+    calm : StaysCalm a m
+    calm = o.reads.cause
 
     kind : SentKind done
     kind = kind-of path.names r done ends own
@@ -350,7 +322,7 @@ module _ (X : List ℕ → List ℕ) (N : List ℕ → ℕ) (absent : Bool) (pat
     back stood = stood-back a.faults m.faults b.faults calm.faults stood
 
     opened-over : (p : Profile) (es : Entries) → NamesOver X N a.told p es → Stood a.faults m.faults → StandsOver X N m.told found p es
-    opened-over p es names stood = subst (λ t. StandsOver X N t found p es) (sym told) (over p es names stood)
+    opened-over p es names stood = subst (λ t. StandsOver X N t found p es) (sym told) (o.lost p es names stood)
 
     -- the text of the reply, and what is said
     module _ (p : Profile) (es : Entries) where
@@ -382,16 +354,16 @@ module _ (X : List ℕ → List ℕ) (N : List ℕ → ℕ) (absent : Bool) (pat
 
     ok-answer : (s : Standing) → TellsAs X N a.told s → Stood a.faults b.faults → r ≢ Err light.Sink
         → DoesWant X N true s done b.told ⊎ DoesReply X N true (in_tree (prove_reply X N absent path.names) s) done h h2 b.told
-    ok-answer NoHead stands stood other = absurd (opens NoHead stands (front stood))
-    ok-answer BadHead stands stood other = absurd (opens BadHead stands (front stood))
+    ok-answer NoHead stands stood other = absurd (o.opens NoHead stands (front stood))
+    ok-answer BadHead stands stood other = absurd (o.opens BadHead stands (front stood))
     ok-answer (Stands p es) stands stood other =
         answered X N path.names h h2 (Text p es) (Says p es) r done ends own b.told (Stands p es) m.told (blocks X N p (Dir es))
         (subst (λ t. TellsHeld t (blocks X N p (Dir es))) (sym told) (held-of X N a.told p es stands)) (stands-same X N a.told b.told (Stands p es) same stands)
         (proves-at p es (opened-over p es (names-of X N a.told p es stands) (front stood)) (back stood)) other
 
     printed : (s : Standing) → NamesAs X N a.told b.told s → CanRise a.faults → PrintsPart (in_tree (prove_reply X N absent path.names) s).ends h h2
-    printed NoHead names had = absurd (opens NoHead names (stood-calm a.faults m.faults calm.faults had))
-    printed BadHead names had = absurd (opens BadHead names (stood-calm a.faults m.faults calm.faults had))
+    printed NoHead names had = absurd (o.opens NoHead names (stood-calm a.faults m.faults calm.faults had))
+    printed BadHead names had = absurd (o.opens BadHead names (stood-calm a.faults m.faults calm.faults had))
     printed (Stands p es) named had =
         front-printed X N path.names h h2 (Text p es) (Says p es)
         (front-at p es (opened-over p es named.names (stood-calm a.faults m.faults calm.faults had)) (subst CanRise (sym calm.faults) had))
@@ -426,22 +398,22 @@ module _ (X : List ℕ → List ℕ) (N : List ℕ → ℕ) (absent : Bool) (pat
           let opened = opened-over p es named.names (front quiet.faults) in
           let more =
           few p (Dir es) (rows_found rows (at 0 path.names (Dir es))) (agreed-of X N m.told found p es opened) (back quiet.faults) (rows-tall p rows (at 0 path.names (Dir es)) opened.root.plan.profile heights) in
-          omega (arith, most, more);
-      touched = λ blames. (let k = up.kept in let more = proof-touched path.names X (IsBadLight X N m.told found.root.cid) m b w w2 t1 t2 r done ends own touched blames in omega (arith, k, more));
+          let one = o.touches in omega (arith, one, more);
+      touched = λ blames. (let k = o.touched.kept in let more = proof-touched path.names X (IsBadLight X N m.told found.root.cid) m b w w2 t1 t2 r done ends own touched blames in omega (arith, k, more));
       unready = λ e is. record { told = same; left = refl; reads = refl };
       unplaced = λ p es names stood none. absurd none;
-      leaves = record { good = KeepsGood-same X a.told b.told same; head = if-err done _ (ap head_in same); writes = same-writes; idle = λ p es input stands calm same. absurd cc };
+      leaves = record { head = if-err done _ (ap head_in same); writes = same-writes; idle = λ p es input stands calm same. absurd cc };
     }
       where
         finds : (s : Standing) → TellsAs X N a.told s → Stood a.faults b.faults → FindsAll (ended done)
-        finds NoHead stands stood = absurd (opens NoHead stands (front stood))
-        finds BadHead stands stood = absurd (opens BadHead stands (front stood))
+        finds NoHead stands stood = absurd (o.opens NoHead stands (front stood))
+        finds BadHead stands stood = absurd (o.opens BadHead stands (front stood))
         finds (Stands p es) stands stood =
             proof-finds X N path.names h h2 (Text p es) (Says p es) r done ends own m.told (blocks X N p (Dir es)) (subst (λ t. TellsHeld t (blocks X N p (Dir es))) (sym told) (held-of X N a.told p es stands))
             (proves-at p es (opened-over p es (names-of X N a.told p es stands) (front stood)) (back stood))
 
         bad-of : (role : Role) (block : List ℕ) → IsBadLight X N a.told found.root.cid role block → IsBadIn X N a.told b.told role block
-        bad-of role block (inl bad) = inl (record { head = head_of found; is_told = head; bad = in-tree X N found.root.cid role block bad })
+        bad-of role block (inl bad) = inl (record { head = head_of found; is_told = o.head; bad = in-tree X N found.root.cid role block bad })
         bad-of role block (inr bad) = inr (inl bad)
 
         same-writes : WritesAs X NoWrites (is_done (ended done)) a.told b.told

@@ -4,7 +4,7 @@ use Rattle.std.specs.Prelude.{IfOk, IfSome}
 use Rattle.uf_cid.specs.Blocks.{Held}
 use Rattle.uf_mfs.specs.Answers as tree
 use Rattle.uf_mfs.specs.Moving.{GivesOr}
-use Rattle.uf_mfs.specs.Standing.{Commits, Idle, Written, Inits, IsPlanOf, LeavesHead, NamesOver, OnlySynced, OpensOver, Same, StandsAfter, TellsAs, head_in}
+use Rattle.uf_mfs.specs.Standing.{Commits, Idle, Written, Inits, IsPlanOf, LeavesHead, NamesOver, OnlySynced, Same, StandsAfter, TellsAs, head_in}
 use Rattle.uf_mfs.specs.declared.fault.MfsFault.{MfsFault}
 use Rattle.uf_mfs.specs.declared.fault.MfsFault.TheVariants as mfs
 use Rattle.uf_mfs.specs.declared.mfs.Mfs.{Mfs}
@@ -33,6 +33,7 @@ use Rattle.uf_command.specs.declared.types.Refusal.TheVariants as refusal
 use Rattle.uf_top.specs.Causes.{IsMade, RefusesInTree, RefusesOpening}
 use Rattle.uf_top.specs.Losing.{AnswersOver}
 use Rattle.uf_top.specs.Naming.{NamesAfter, StaysNamed}
+use Rattle.uf_top.specs.Opening.{OpensNamed}
 use Rattle.uf_top.proofs.Notes.{note-text}
 
 -- ---- what a commit leaves of what is held
@@ -115,13 +116,8 @@ module _ (X : List ℕ → List ℕ) (N : List ℕ → ℕ) where
     over-more more given r (inr x) = inr (record { ends_are = x.ends_are; stands = x.stands })
 
     -- the root block is lost
-    pub opening-over : (given : Reply) (f : MfsFault) (w : Refusal) → RefusesOpening f w → OpensOver X N a p es (Err f) → NamesAfter X N a b (blocks X N p (Dir es)) p es
-        → AnswersOver X N a b p es (root_of X N p (Dir es) ++ needs) given (Err w)
-    opening-over given (mfs.Rule rule) w is h stands = absurd h
-    opening-over given (mfs.Ready why) w is h stands = absurd h
-    opening-over given mfs.Sink w is h stands = absurd h
-    opening-over given (mfs.Store f) w is h stands =
-        inl (record { fault = f; ends_are = ap (λ (w : Refusal). Err w) is; loss = loss-front a (root_of X N p (Dir es)) needs f h; stands = stands })
+    pub opening-over : (given : Reply) (w : Refusal) → OpensNamed X N a p es (Err w) → NamesAfter X N a b (blocks X N p (Dir es)) p es → AnswersOver X N a b p es (root_of X N p (Dir es) ++ needs) given (Err w)
+    opening-over given w h stands = inl (record { fault = h.0; ends_are = ap (λ (w : Refusal). Err w) h.2; loss = loss-front a (root_of X N p (Dir es)) needs h.0 h.1; stands = stands })
 
     -- what a rule of the tree refuses is refused by the reply
     pub fault-over : (A B : Type 0) (P : A → B → Type 0) (names : List (List ℕ)) (found : Result A Refused) (reply : Result A Refused → Reply) (f : MfsFault) (w : Refusal)

@@ -9,7 +9,7 @@ use Rattle.uf_tree.specs.Tree.{Dir, Entries}
 use Rattle.uf_tree.specs.TreePlan.{blocks}
 use Rattle.uf_tree.specs.declared.profile.Profile.{Profile}
 use Rattle.uf_command.specs.Commands.{HasInput}
-use Rattle.uf_command.specs.Natures.{prints_after}
+use Rattle.uf_command.specs.Natures.{command_writes, prints_after}
 use Rattle.uf_command.specs.Lines.{line_of, said}
 use Rattle.uf_top.specs.Reply.{Outside, Reply, in_world, reply}
 use Rattle.uf_command.specs.Statuses.{ended, status_of}
@@ -26,6 +26,8 @@ use Rattle.uf_top.specs.Naming.{NamesAfter, StaysNamed, TellsBlocks}
 use Rattle.uf_top.specs.Working.{Does}
 use Rattle.uf_top.proofs.Losing.{names-kept}
 use Rattle.uf_top.proofs.Telling.{detailed-kept, err-ends, ok-ends, printed-all}
+use Rattle.uf_top.specs.Shapes.{is_done}
+use Rattle.uf_top.proofs.Wrote.{shape-good}
 
 module _ (a b : Around) (given : Status) (X : List ℕ → List ℕ) (N : List ℕ → ℕ) (p : Profile) (es : Entries) where
   abbrev Says : List ℕ → Type 0
@@ -62,7 +64,7 @@ module _ (a b : Around) (given : Status) (X : List ℕ → List ℕ) (N : List �
 
   still-of : (command : Command) (done : Result (Unit {0}) Refusal) → Does X N command done a b → StaysNamed X N a.store.told b.store.told p es → (why : Refusal) → done ≡ Err why → has_details (status_of why) ≡ true → StillNamed
   still-of command done h named why is detailed =
-      names-kept X N a.store.told b.store.told p es h.leaves.good (detailed-kept why (prints_after command) a.store.told b.store.told detailed (subst (λ d. KeepsHead d (prints_after command) a.store.told b.store.told) is h.leaves.head)) named
+      names-kept X N a.store.told b.store.told p es (shape-good X (command_writes command) (is_done (ended done)) a.store.told b.store.told h.leaves.writes) (detailed-kept why (prints_after command) a.store.told b.store.told detailed (subst (λ d. KeepsHead d (prints_after command) a.store.told b.store.told) is h.leaves.head)) named
 
   pub lost-told : (command : Command) (done : Result (Unit {0}) Refusal) → Does X N command done a b → TellsEnd Says done given
       → (rows : ℕ → ℕ) (held : Lookup) (outside : Outside) → StaysNamed X N a.store.told b.store.told p es → TellsBlocks a.store.told held → AreHeights p rows → HasOutside (Ok command) outside a b → Calm a.store b.store → AllWritten (Ok command) a.writes b.writes a.host.writes b.host.writes → MetNone (Ok command) given

@@ -26,14 +26,13 @@ use Rattle.uf_store.specs.Faults.{NoneIsBad, Shown, StaysCalm}
 use Rattle.uf_store.specs.Keeping.{KeepsGood}
 use Rattle.uf_store.specs.Seen.{Seen}
 use Rattle.uf_store.specs.Sweeping.{is_among}
-use Rattle.uf_store.specs.Writing.{IsAny, SavesOnly, WritesOnly}
+use Rattle.uf_store.specs.Writing.{SavesOnly}
 use Rattle.uf_store.specs.declared.store.Note.TheVariants.{Head, Pins}
 use Rattle.uf_store.specs.declared.store.StoreFault.{StoreFault}
 use Rattle.uf_store.specs.declared.store.StoreFault.TheVariants as fault
 use Rattle.uf_store.proofs.Calls.{shown-by}
 use Rattle.uf_store.proofs.Causes.{calm-memory}
-use Rattle.uf_store.proofs.Keeping.{KeepsGood-same}
-use Rattle.uf_store.proofs.Writing.{WritesOnly-noted, WritesOnly-synced, Wrote-good, Wrote-same, Wrote-trans, saves-notes}
+use Rattle.uf_store.proofs.Writing.{saves-notes}
 use Rattle.uf_tree.specs.Heads.{head_text}
 use Rattle.uf_tree.specs.Tree.{Entries}
 use Rattle.uf_tree.specs.declared.profile.Profile.{Profile}
@@ -73,6 +72,7 @@ use Rattle.uf_top.proofs.Losing.{names-kept}
 use Rattle.uf_top.proofs.Printing.{after-nothing, nothing-printed, quiet-of, whole-printed}
 use Rattle.uf_top.proofs.Shaped.{head-after}
 use Rattle.uf_top.proofs.Shows.{counts-still, not-rose}
+use Rattle.uf_top.proofs.Wrote.{shape-good}
 
 -- ---- what is written
 
@@ -85,16 +85,6 @@ note-head text None = refl
 note-head text (Some t) = refl
 
 module _ (X : List ℕ → List ℕ) where
-  pub syncs-wrote : (done : Bool) (a b : Told) → WritesAs X SyncsPins done a b → WritesOnly X a b
-  syncs-wrote true a b (inl h) = WritesOnly-synced X a b h
-  syncs-wrote true a b (inr h) = Wrote-trans X IsAny a (changed with_sync a) b (WritesOnly-synced X a (changed with_sync a) refl) (WritesOnly-noted X Pins h.0 (changed with_sync a) b h.1)
-  syncs-wrote false a b (inl h) = Wrote-same X IsAny a b h
-  syncs-wrote false a b (inr h) = WritesOnly-synced X a b h
-
-  pub notes-wrote : (done : Bool) (a b : Told) → WritesAs X NotesPins done a b → WritesOnly X a b
-  notes-wrote true a b h = WritesOnly-noted X Pins h.0 a b h.1
-  notes-wrote false a b h = Wrote-same X IsAny a b h
-
   syncs-head : (done : Bool) (a b : Told) → WritesAs X SyncsPins done a b → head_in b ≡ head_in a
   syncs-head true a b (inl h) = ap head_in h ∙ sync-head a
   syncs-head true a b (inr h) = ap head_in h.1 ∙ note-head h.0 (changed with_sync a) ∙ sync-head a
@@ -105,12 +95,7 @@ module _ (X : List ℕ → List ℕ) where
   notes-head true a b h = ap head_in h.1 ∙ note-head h.0 a
   notes-head false a b h = ap head_in h
 
-  -- a command on pins keeps good blocks, and the Head
-  pub pins-good : (ask : PinAsk) (done : Bool) (a b : Told) → WritesAs X (pin_writes ask) done a b → KeepsGood X a b
-  pins-good (pins.Add cid) done a b h = Wrote-good X IsAny a b (syncs-wrote done a b h)
-  pins-good (pins.Remove cid) done a b h = Wrote-good X IsAny a b (notes-wrote done a b h)
-  pins-good pins.List done a b h = Wrote-good X IsAny a b (Wrote-same X IsAny a b h)
-
+  -- a command on pins leaves the Head
   pub pins-head : (ask : PinAsk) (done : Bool) (a b : Told) → WritesAs X (pin_writes ask) done a b → head_in b ≡ head_in a
   pins-head (pins.Add cid) done a b h = syncs-head done a b h
   pins-head (pins.Remove cid) done a b h = notes-head done a b h
@@ -483,11 +468,11 @@ module _ (X : List ℕ → List ℕ) (N : List ℕ → ℕ) (ask : PinAsk) (a b 
         touched = λ blames. absurd (is.blameless blames);
         unready = λ e given. record { told = alone (bad-pins f given); left = refl; reads = refl };
         unplaced = λ p es names stood none. absurd none;
-        leaves = record { good = good; head = head; writes = subst (λ d. WritesAs X (pin_writes ask) d a.told b.told) (sym quiet.undone) writes; idle = λ p es bytes stands calm is. absurd cc };
+        leaves = record { head = head; writes = subst (λ d. WritesAs X (pin_writes ask) d a.told b.told) (sym quiet.undone) writes; idle = λ p es bytes stands calm is. absurd cc };
       }
     where
       good : KeepsGood X a.told b.told
-      good = pins-good X ask false a.told b.told writes
+      good = shape-good X (pin_writes ask) false a.told b.told writes
 
       head : head_in b.told ≡ head_in a.told
       head = pins-head X ask false a.told b.told writes
@@ -544,11 +529,11 @@ module _ (X : List ℕ → List ℕ) (N : List ℕ → ℕ) (ask : PinAsk) (a b 
     touched = λ blames. absurd blames;
     unready = λ e is. absurd cc;
     unplaced = λ p es names stood none. absurd none;
-    leaves = record { good = good; head = tt; writes = writes; idle = λ p es bytes stands quiet is. absurd cc };
+    leaves = record { head = tt; writes = writes; idle = λ p es bytes stands quiet is. absurd cc };
   }
     where
       good : KeepsGood X a.told b.told
-      good = pins-good X ask true a.told b.told writes
+      good = shape-good X (pin_writes ask) true a.told b.told writes
 
       head : head_in b.told ≡ head_in a.told
       head = pins-head X ask true a.told b.told writes
@@ -630,7 +615,7 @@ module _ (X : List ℕ → List ℕ) (N : List ℕ → ℕ) (a b : Seen) (l : st
         touched = λ blames. absurd blames;
         unready = λ e is. absurd cc;
         unplaced = λ p es names stood none. absurd none;
-        leaves = record { good = KeepsGood-same X a.told b.told same; head = ap head_in same; writes = same; idle = λ p es bytes stands quiet is. absurd cc };
+        leaves = record { head = ap head_in same; writes = same; idle = λ p es bytes stands quiet is. absurd cc };
       }
 
       pub lists-done : (r : Result (Unit {0}) Refusal) → Prints text r h h2 w v → Does X N (Pin pins.List) r (around a l i h w t0 side er) (around b l i h2 v t0 side er2)

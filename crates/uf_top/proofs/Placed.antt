@@ -1,5 +1,5 @@
 -- How what is added is put into the tree that the Head names, from its opening to its commit.
-use Rattle.std.proofs.Common.{◌≡◌, ◌≢◌, ◌⊎◌, ℕ, ◌+◌, ◌*◌, ◌≤◌, ◌<◌, List, [], ◌∷◌, ◌++◌, length, arith, Bool, true, false, refl, sym, ap, subst, ◌∙◌, inl, inr, Option, Some, None, Result, Ok, Err}
+use Rattle.std.proofs.Common.{◌≡◌, ◌≢◌, ◌⊎◌, ℕ, ◌+◌, ◌*◌, ◌≤◌, ◌<◌, List, [], ◌∷◌, length, arith, Bool, true, false, refl, sym, ap, subst, ◌∙◌, inl, inr, Option, Some, None, Result, Ok, Err}
 use Rattle.std.specs.Prelude.{IfErr, IfOk, IfSome, IsErr, OnErr, if◌then◌else◌, nat_le, ⊤}
 use Rattle.uf_cid.specs.Blocks.{Held}
 use Rattle.uf_edge.specs.Counts.{Counts, Stood}
@@ -70,7 +70,8 @@ use Rattle.uf_top.specs.Hosted.{AreHostRows}
 use Rattle.uf_top.specs.Bounds.{placing_touches}
 use Rattle.uf_top.specs.Losing.{AnswersOver, placing_needs, row_name}
 use Rattle.uf_top.specs.Naming.{NamesAfter, StandsNamed, StaysNamed}
-use Rattle.uf_top.specs.Placing.{FindsSpot, IsFoundAt, IsGiven, IsReadyIn, IsUngiven, IsUnready, OpensFound, PutsGiven, SaysHost, SaysInput, kinds_placing}
+use Rattle.uf_top.specs.Opening.{IsUnready}
+use Rattle.uf_top.specs.Placing.{FindsSpot, IsFoundAt, IsGiven, IsReadyIn, IsUngiven, OpensFound, PutsGiven, SaysHost, SaysInput, kinds_placing}
 use Rattle.uf_top.specs.Reply.{added_spot, by_rule, file_cid, good_name, host_tree, in_tree, input_row, input_tree, not_ready, placed, settled}
 use Rattle.uf_top.specs.Saving.{KeepsHosted, KeepsPut}
 use Rattle.uf_top.specs.Shapes.{WritesAs, WritesInTree, is_ok}
@@ -727,7 +728,7 @@ module _ (X : List ℕ → List ℕ) (N : List ℕ → ℕ) where
     touched = e.touched;
     unready = λ may is. by-head X N dest None done a d (LeavesAlone (around a l i held w t0 side er) (around d m j held w t2 side er2)) how is;
     unplaced = λ p es names stood none. by-spot X N dest None done a d (LeavesAlone (around a l i held w t0 side er) (around d m j held w t2 side er2)) how p es names stood none;
-    leaves = record { good = e.good; head = head-after done a.told d.told e.head; writes = e.writes; idle = λ p es bytes names calm same. absurd cc };
+    leaves = record { head = head-after done a.told d.told e.head; writes = e.writes; idle = λ p es bytes names calm same. absurd cc };
   }
 
   pub of-host : (recursive : Bool) (path : List ℕ) (dest : Path) (l : streams.Told) (i : ℕ) (held : streams.Told) (w : ℕ) (side side2 : HostSide) (er er2 : SinkSide) (done : Result (List ℕ) Refusal) (a d : Seen) (t0 t2 : ℕ)
@@ -756,7 +757,7 @@ module _ (X : List ℕ → List ℕ) (N : List ℕ → ℕ) where
     touched = e.touched;
     unready = λ may is. by-head X N dest (Some path) done a d (LeavesAlone (around a l i held w t0 side er) (around d l i held w t2 side2 er2)) how is;
     unplaced = λ p es names stood none. by-spot X N dest (Some path) done a d (LeavesAlone (around a l i held w t0 side er) (around d l i held w t2 side2 er2)) how p es names stood none;
-    leaves = record { good = e.good; head = head-after done a.told d.told e.head; writes = e.writes; idle = λ p es bytes names calm same. absurd cc };
+    leaves = record { head = head-after done a.told d.told e.head; writes = e.writes; idle = λ p es bytes names calm same. absurd cc };
   }
 
 -- what may be said where it isn't known

@@ -7,7 +7,6 @@ use Rattle.uf_edge.specs.Host.{HostTold, HostTree}
 use Rattle.uf_edge.specs.Streams.{after, AppendsPrefix}
 use Rattle.uf_edge.specs.Streams as streams
 use Rattle.uf_mfs.specs.Standing.{head_in}
-use Rattle.uf_plain.specs.declared.rule.Rule.{Rule}
 use Rattle.uf_store.specs.Calls.{Calm}
 use Rattle.uf_store.specs.Contents.{Told}
 use Rattle.uf_store.specs.Faults.{StaysCalm}
@@ -352,7 +351,6 @@ module _ (X : List ℕ → List ℕ) (N : List ℕ → ℕ) where
           unready = λ e is. mk.unready e is;
           unplaced = λ p es names stood none. mk.unplaced p es names stood none;
           leaves = record {
-            good = mk.leaves.good;
             head = keeps-head (Err why) (natures.prints_after command) a.told b.told mk.leaves.head;
             writes = subst (λ d. WritesAs X (command_writes command) d a.told b.told) (sym quiet.undone) mk.leaves.writes;
             idle = mk.leaves.idle;
@@ -429,7 +427,7 @@ module _ (X : List ℕ → List ℕ) (N : List ℕ → ℕ) where
           touched = mk.touched;
           unready = λ e is. absurd cc;
           unplaced = λ p es names stood none. (let x = mk.unplaced p es names stood none in record { told = x.told; left = x.left; reads = x.reads });
-          leaves = record { good = mk.leaves.good; head = keeps-head (Ok tt) (natures.prints_after command) a.told b.told tt; writes = mk.leaves.writes; idle = mk.leaves.idle };
+          leaves = record { head = keeps-head (Ok tt) (natures.prints_after command) a.told b.told tt; writes = mk.leaves.writes; idle = mk.leaves.idle };
         }
           where
             answered : (world : World) → (uses_host command ≡ true → side.told ≡ Some world.host) → Answers X N world.standing (reply X N command world) (Ok text) b.told → DoesAnswer X N command world (Ok tt) h h2 b.told side2.told
@@ -482,7 +480,7 @@ module _ (X : List ℕ → List ℕ) (N : List ℕ → ℕ) where
               touched = λ blames. absurd blames;
               unready = λ e is. absurd cc;
               unplaced = λ p es names stood none. (let x = mk.unplaced p es names stood none in record { told = x.told; left = x.left; reads = x.reads });
-              leaves = record { good = mk.leaves.good; head = some-stays text (natures.prints_after command) a.told b.told c.some mk.leaves.head; writes = mk.leaves.writes; idle = mk.leaves.idle };
+              leaves = record { head = some-stays text (natures.prints_after command) a.told b.told c.some mk.leaves.head; writes = mk.leaves.writes; idle = mk.leaves.idle };
             }
 
         -- or the output failed

@@ -1,23 +1,28 @@
--- What a call on a tree gave, and the same with its fault as a refusal.
-use Rattle.std.proofs.Common.{◌≡◌, ℕ, List, ap, sym, subst, Result, Ok, Err, IsErrAnd, MatchResult}
+-- What a call gave, and the same with its fault as a refusal.
+use Rattle.std.proofs.Common.{◌≡◌, ℕ, List, ap, sym, subst, inl, inr, Result, Ok, Err, IsErrAnd, MatchResult}
 use Rattle.uf_mfs.specs.Answers.{ShownInTree}
 use Rattle.uf_mfs.specs.Steps.{tree_fault}
 use Rattle.uf_mfs.specs.Touches.{CountsUp}
 use Rattle.uf_mfs.specs.declared.fault.MfsFault.{MfsFault}
+use Rattle.uf_plain.specs.declared.ready.Ready.{Ready}
+use Rattle.uf_store.specs.Contents.{Told}
 use Rattle.uf_store.specs.Faults.{Shown}
 use Rattle.uf_store.specs.Seen.{Seen}
 use Rattle.uf_store.specs.declared.store.Role.{Role}
+use Rattle.uf_store.specs.declared.store.StoreFault.{StoreFault}
 use Rattle.uf_command.specs.Kinds.{refusal_fault}
 use Rattle.uf_command.specs.declared.types.Refusal.{Refusal}
-use Rattle.uf_top.specs.Causes.{RefusesInTree}
+use Rattle.uf_command.specs.declared.types.Refusal.TheVariants as refusal
+use Rattle.uf_top.specs.Causes.{IsReasonInTree, RefusesInTree}
+use Rattle.uf_top.specs.Opening.{IsUnopened}
 use Rattle.uf_top.proofs.Shows.{Shown-tree, tree-touched}
 
 -- the call's value is given, or its fault as such a refusal
-abbrev pub IsRefusedAs : {A : Type 0} → (MfsFault → Refusal → Type 0) → Result A MfsFault → Result A Refusal → Type 0
+abbrev pub IsRefusedAs : {A F : Type 0} → (F → Refusal → Type 0) → Result A F → Result A Refusal → Type 0
 IsRefusedAs Refuses r given = MatchResult r (λ a. given ≡ Ok a) (λ f. IsErrAnd given (Refuses f))
 
 -- so the call gave the same value
-pub gave-same : {A : Type 0} (Refuses : MfsFault → Refusal → Type 0) (r : Result A MfsFault) (a : A) → IsRefusedAs Refuses r (Ok a) → r ≡ Ok a
+pub gave-same : {A F : Type 0} (Refuses : F → Refusal → Type 0) (r : Result A F) (a : A) → IsRefusedAs Refuses r (Ok a) → r ≡ Ok a
 gave-same Refuses (Ok b) a is = let same : a ≡ b = cc in ap Ok (sym same)
 gave-same Refuses (Err f) a is = absurd is
 
@@ -39,3 +44,8 @@ module _ {A : Type 0} (r : Result A MfsFault) (given : Result A Refusal) where
 
   pub counts-both : (t0 t1 : ℕ) → IsRefusedAs RefusesInTree r given → CountsUp (tree_fault r) t0 t1 → CountsUp (refusal_fault given) t0 t1
   counts-both t0 t1 is = of-both (λ r given. CountsUp (tree_fault r) t0 t1 → CountsUp (refusal_fault given) t0 t1) is (λ x h. h) (λ f why. tree-touched A f why t0 t1)
+
+-- what holds of both refusals by which a tree isn't opened
+pub by-unopened : (P : Refusal → Type 0) (told : Told) (why : Refusal) → ((reason : Ready) → IsReasonInTree reason told → P (refusal.Ready reason)) → ((f : StoreFault) → P (refusal.Store f)) → IsUnopened told why → P why
+by-unopened P told why ready store (inl u) = subst P (sym u.2) (ready u.0 u.1)
+by-unopened P told why ready store (inr u) = subst P (sym u.1) (store u.0)

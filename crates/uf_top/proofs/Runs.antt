@@ -22,7 +22,7 @@ use Rattle.uf_top.specs.Running.{Runs, RunsCommand}
 use Rattle.uf_top.specs.Working.{Does, Serves}
 use Rattle.uf_top.proofs.Counted.{counted-of}
 use Rattle.uf_top.proofs.Losses.{lost-told, touches-told}
-use Rattle.uf_top.proofs.Telling.{blamed-told, blames-told, clashes-told, faults-told, gets-told, good-told, head-told, host-told, idle-told, is-refused, kept-told, kinds-told, pins-told, prefix-told, prints-told, read-told, replies-told, says-plain, shows, synced-told, told-same, unplaced-told, unprinted-over-told, unprinted-told, unready-told, whole-told, write-told, writes-told}
+use Rattle.uf_top.proofs.Telling.{blamed-told, blames-told, clashes-told, faults-told, gets-told, head-told, host-told, idle-told, is-refused, kept-told, kinds-told, pins-told, prefix-told, prints-told, read-told, replies-told, says-plain, shows, synced-told, unplaced-told, unprinted-over-told, unprinted-told, unready-told, whole-told, write-told, writes-told}
 
 -- no words that are refused call a block bad
 no-words-blame : (cid : Cid) (role : Role) → IsOfWords (Err (refusal.Store (BadBlock cid role))) → ⊥
@@ -62,9 +62,7 @@ module _ (given : Status) (X : List ℕ → List ℕ) (N : List ℕ → ℕ) (a 
     };
     left = record {
       writes = writes-told a b given X N command done s t;
-      good = good-told a b given X N command done s;
       head = λ unmoved. head-told a b given X N command done s t unmoved;
-      told = λ is. told-same a b given X N command done s is;
       idle = λ p es bytes names input faults is. idle-told a b given X N command done s p es bytes names input faults is;
       unready = λ is. unready-told a b given X N command done s (kinds-told a b given command done kinds t) t is;
       unplaced = λ p es names stood none. unplaced-told a b given X N command done s p es names stood none;

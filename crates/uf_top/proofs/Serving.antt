@@ -11,7 +11,6 @@ use Rattle.uf_store.specs.Seen.{Seen}
 use Rattle.uf_edge.specs.Streams as streams
 use Rattle.uf_store.specs.declared.store.StoreFault.TheVariants.{Memory}
 use Rattle.uf_store.proofs.Causes.{StaysCalm-refl, calm-memory}
-use Rattle.uf_store.proofs.Keeping.{KeepsGood-refl}
 use Rattle.uf_store.proofs.Writing.{SavesOnly-refl}
 use Rattle.uf_command.specs.Commands.{IsAsked, IsOfWords}
 use Rattle.uf_command.specs.Natures.{IsOfCommand, NoStore, OwnStore, command_writes, generates, own_store, reads_tree_alone, streams as flows, uses_host, writes_host, prints_after}
@@ -177,7 +176,7 @@ module _ (X : List ℕ → List ℕ) (N : List ℕ → ℕ) (a : Around) (er2 : 
     touched = λ blames. absurd blames;
     unready = λ e is. record { told = refl; left = refl; reads = refl };
     unplaced = λ p es names stood none. record { told = refl; left = refl; reads = refl };
-    leaves = record { good = KeepsGood-refl X a.store.told; head = keeps-head (Err no_memory) (prints_after command) a.store.told a.store.told refl; writes = memory-writes X command a.store.told; idle = λ p es bytes stands calm same. refl };
+    leaves = record { head = keeps-head (Err no_memory) (prints_after command) a.store.told a.store.told refl; writes = memory-writes X command a.store.told; idle = λ p es bytes stands calm same. refl };
   }
 
   -- words that are refused

@@ -1,6 +1,6 @@
 -- The steps of what is added to where a path of the tree leads: the spot, what is read, and what is put.
 use Rattle.std.proofs.Common.{◌≡◌, ◌⊎◌, ℕ, ◌+◌, ◌*◌, ◌≤◌, ◌<◌, List, [], ◌++◌, length, arith, Bool, true, false, cond, nat_lt, refl, sym, ap, subst, ◌∙◌, inl, inr, Option, Some, None, Result, Ok, Err}
-use Rattle.std.specs.Prelude.{if◌then◌else◌, IsTrue}
+use Rattle.std.specs.Prelude.{if◌then◌else◌, IfErr, IsTrue, OnErr, OnOk}
 use Rattle.std.specs.List.{flat_map}
 use Rattle.std.proofs.lemmas.Bool.{le-leb, lt-leb}
 use Rattle.std.proofs.lemmas.Bool.Decides.{nat_tests}
@@ -15,12 +15,12 @@ use Rattle.uf_host.specs.declared.import.AddedRow.{AddedRow}
 use Rattle.uf_host.proofs.Bytes.{bytes-all}
 use Rattle.uf_adopt.specs.Adopting.{IsBuilt}
 use Rattle.uf_edge.specs.Host.{HostTold}
-use Rattle.uf_mfs.specs.Answers.{ShownInTree, ShownOpening}
+use Rattle.uf_mfs.specs.Answers.{ShownInTree}
 use Rattle.uf_mfs.specs.Bad.{IsBadInHead, IsBadInTree}
 use Rattle.uf_cid.specs.Blocks.{Held}
 use Rattle.uf_mfs.specs.Missing.{PutMisses, SpotMisses, put_names, put_needs, spot_needs}
 use Rattle.uf_mfs.specs.Moving.{GivesOr, GivesOver, put_crossings}
-use Rattle.uf_mfs.specs.Standing.{Commits, IsPlanOf, IsWanting, LeavesHead, NamesOver, Opens, OpensOver, ReadsHead, Same, StandsAfter, StandsOver, TellsAs}
+use Rattle.uf_mfs.specs.Standing.{Commits, IsPlanOf, IsWanting, LeavesHead, NamesOver, Same, StandsAfter, StandsOver, TellsAs}
 use Rattle.uf_mfs.specs.Steps.{IsFolderOver, MovesTree, tree_fault}
 use Rattle.uf_mfs.specs.Touches.{CountsUp, TouchesPut}
 use Rattle.uf_mfs.specs.declared.fault.MfsFault.{MfsFault}
@@ -32,7 +32,6 @@ use Rattle.uf_path.specs.declared.path.Path.{Path}
 use Rattle.uf_plain.specs.Moves.{allowed_move, placed_at, put_at_spot, spot_names, spotted}
 use Rattle.uf_plain.specs.Needs.{root_of}
 use Rattle.uf_plain.specs.Rules.{allowed}
-use Rattle.uf_plain.specs.declared.ready.Ready.TheVariants as ready
 use Rattle.uf_plain.specs.declared.rule.Rule.TheVariants.{FileTooLong}
 use Rattle.uf_plain.specs.declared.spot.Spot.{Spot}
 use Rattle.uf_store.specs.Calls.{OnlySaves}
@@ -61,17 +60,17 @@ use Rattle.uf_varint.specs.Fields.{◌>>=◌}
 use Rattle.uf_command.specs.Lines.{added_line}
 use Rattle.uf_command.specs.Kinds.{OfHost, OfReady, fault_behind, may_meet, refusal_kind}
 use Rattle.uf_command.specs.Statuses.{no_memory}
-use Rattle.uf_command.specs.declared.types.Ask.TheVariants.{Ls}
 use Rattle.uf_command.specs.declared.types.HostRule.TheVariants as rules
 use Rattle.uf_command.specs.declared.types.Refusal.{Refusal}
 use Rattle.uf_command.specs.declared.types.Refusal.TheVariants as refusal
-use Rattle.uf_top.specs.Causes.{RefusesInTree, RefusesOpening, is_read}
+use Rattle.uf_top.specs.Causes.{RefusesInTree, is_read}
 use Rattle.uf_top.specs.Grafts.{FollowsOr, IsLostBy, IsOkFor}
 use Rattle.uf_top.specs.HostTexts.{host_row, host_text}
 use Rattle.uf_top.specs.Hosted.{IsHostRefused}
 use Rattle.uf_build.specs.Intake.{IsWholeFile, PassesMost}
 use Rattle.uf_top.specs.Losing.{placing_needs, row_name}
 use Rattle.uf_top.specs.Naming.{NamesAfter}
+use Rattle.uf_top.specs.Opening.{OpensNamed, OpensStanding, OpensTree}
 use Rattle.uf_top.specs.Placing.{EndsWith, FindsSpot, GivesFor, GivesRows, HasLast, IsFoundAt, IsGiven, IsReadyIn, IsUngiven, OpensFound, PutTouches, PutsFrom, PutsGiven, SaysHost, SaysInput, kinds_placing}
 use Rattle.uf_top.specs.Around.{CountsCanRise}
 use Rattle.uf_top.specs.Saving.{SavesNoOther}
@@ -82,12 +81,13 @@ use Rattle.uf_top.specs.declared.given.OpenSpot.{OpenSpot}
 use Rattle.uf_top.specs.declared.given.Given.{Given}
 use Rattle.uf_top.proofs.Added.{given_few, left_are}
 use Rattle.uf_top.proofs.Classed.{tree-kinds}
-use Rattle.uf_top.proofs.InTree.{opening-ready, tree-wants}
+use Rattle.uf_top.proofs.InTree.{tree-wants}
 use Rattle.uf_top.proofs.Losing.{became, commits-agrees, leaves-agrees}
 use Rattle.uf_top.proofs.Placed.{IsOfTree, tree-rule, tree-store}
 use Rattle.uf_top.proofs.Putting.{added-names, gives-misses, gives-ok, gives-stop, needs_at_spot, ok-for, ok-value, put_gives, put_within, tells-of}
+use Rattle.uf_top.proofs.Refusing.{IsRefusedAs, by-unopened}
 use Rattle.uf_top.proofs.Saved.{agrees-both, no-other-among, no-other-commits, no-other-leaves, no-other-trans, throughout}
-use Rattle.uf_top.proofs.Shows.{head_of, Shown-opening, Shown-tree, opening-touched, tree-touched}
+use Rattle.uf_top.proofs.Shows.{head_of, Shown-tree, tree-touched}
 
 -- ---- faults
 
@@ -106,69 +106,50 @@ not-ready-in told (mfs.Store f) why is = subst (IsReadyIn told) (sym is) tt
 
 -- ---- the spot
 
-module _ (X : List ℕ → List ℕ) (N : List ℕ → ℕ) (dest : Path) (path : Option (List ℕ)) (a m : Seen) (told : m.told ≡ a.told) (t0 t1 : ℕ) where
+module _ (X : List ℕ → List ℕ) (N : List ℕ → ℕ) (dest : Path) (path : Option (List ℕ)) (a m : Seen) (t0 t1 : ℕ) where
   ready-kind : (p : Option (List ℕ)) → may_meet (kinds_placing p) OfReady ≡ true
   ready-kind None = refl
   ready-kind (Some path) = refl
 
   -- the tree isn't opened
-  pub unopened : (f : MfsFault) (why : Refusal) → RefusesOpening f why → ((s : Standing) → TellsAs X N a.told s → Stood a.faults m.faults → Opens X N m.told s (Err f))
-      → ((p : Profile) (es : Entries) → NamesOver X N a.told p es → Stood a.faults m.faults → OpensOver X N a.told p es (Err f))
-      → ReadsHead a.told (Err f) → ShownOpening X (IsBadInHead X N a.told) {A = Mfs} (Err f) a m → t1 ≤ t0 + 1 → CountsUp (tree_fault {A = Mfs} (Err f)) t0 t1 → FindsSpot X N dest path (Err why) a m t0 t1
-  unopened f why is opens lost head cause few up = record {
-    opens = λ s stands stood. by-standing s f is (opens s stands stood);
-    lost = λ p es names stood. inl (by-loss p es f is (lost p es names stood));
+  pub unopened : (why : Refusal) → OpensTree X N (Err why) a m t0 t1 → FindsSpot X N dest path (Err why) a m t0 t1
+  unopened why o = record {
+    opens = λ s stands stood. by-standing s (o.opens s stands stood);
+    lost = λ p es names stood. inl (by-loss p es (o.lost p es names stood));
     head = tt;
     mfs = tt;
-    ready = by-ready f is head;
-    kinds = by-kind f is;
-    unread = by-read f is;
-    reads = record { cause = Shown-opening Mfs X (IsBadInHead X N a.told) (IsBadInHead X N a.told) (λ role bytes bad. bad) f why a m is cause; told = told };
-    touches = omega (arith, few);
-    touched = opening-touched Mfs f why t0 t1 is up;
+    ready = by-unopened (IsReadyIn a.told) a.told why (λ reason head. head) (λ f. tt) o.refused;
+    kinds = by-unopened (λ w. may_meet (kinds_placing path) (refusal_kind w) ≡ true) a.told why (λ reason head. ready-kind path) (λ f. (tree-store path f).kind) o.refused;
+    unread = by-unopened (λ w. is_read {A = OpenSpot} (Err w) ≡ false) a.told why (λ reason head. refl) (λ f. (tree-store path f).unread) o.refused;
+    reads = o.reads;
+    touches = let one = o.touches in omega (arith, one);
+    touched = o.touched;
   }
     where
-      by-standing : (s : Standing) (f : MfsFault) → RefusesOpening f why → Opens X N m.told s (Err f) → OpensFound {A = OpenSpot} s (Err why)
-      by-standing NoHead (mfs.Rule rule) is h = absurd is
-      by-standing NoHead (mfs.Ready r) is h = inr (is ∙ (let e : mfs.Ready r ≡ mfs.Ready ready.NoHead = h in let same : r ≡ ready.NoHead = cc in ap refusal.Ready same))
-      by-standing NoHead mfs.Sink is h = absurd is
-      by-standing NoHead (mfs.Store g) is h = inl (is ∙ ap refusal.Store h)
-      by-standing BadHead (mfs.Rule rule) is h = absurd is
-      by-standing BadHead (mfs.Ready r) is h = inr (is ∙ (let e : mfs.Ready r ≡ mfs.Ready ready.BadHead = h in let same : r ≡ ready.BadHead = cc in ap refusal.Ready same))
-      by-standing BadHead mfs.Sink is h = absurd is
-      by-standing BadHead (mfs.Store g) is h = inl (is ∙ ap refusal.Store h)
-      by-standing (Stands p es) f is h = tt
+      by-standing : (s : Standing) → OpensStanding X N m.told s (Err why) → OpensFound {A = OpenSpot} s (Err why)
+      by-standing NoHead h = h
+      by-standing BadHead h = h
+      by-standing (Stands p es) h = tt
 
-      by-loss : (p : Profile) (es : Entries) (f : MfsFault) → RefusesOpening f why → OpensOver X N a.told p es (Err f) → IsLostBy a.told (placing_needs X N dest (row_name path) p es) why
-      by-loss p es (mfs.Rule rule) is h = absurd h
-      by-loss p es (mfs.Ready r) is h = absurd h
-      by-loss p es mfs.Sink is h = absurd h
-      by-loss p es (mfs.Store g) is h = subst (IsLostBy a.told (placing_needs X N dest (row_name path) p es)) (sym is) (loss-front a.told (root_of X N p (Dir es)) (put_needs X N p (put_names dest (row_name path)) (Dir es)) g h)
+      by-loss : (p : Profile) (es : Entries) → OpensNamed X N a.told p es (Err why) → IsLostBy a.told (placing_needs X N dest (row_name path) p es) why
+      by-loss p es h = subst (IsLostBy a.told (placing_needs X N dest (row_name path) p es)) (sym h.2) (loss-front a.told (root_of X N p (Dir es)) (put_needs X N p (put_names dest (row_name path)) (Dir es)) h.0 h.1)
 
-      by-ready : (f : MfsFault) → RefusesOpening f why → ReadsHead a.told (Err f) → IsReadyIn a.told why
-      by-ready (mfs.Rule rule) is h = absurd is
-      by-ready (mfs.Ready r) is h = subst (IsReadyIn a.told) (sym is) (opening-ready a.told (Ls false) dest (mfs.Ready r) (refusal.Ready r) refl h)
-      by-ready mfs.Sink is h = absurd is
-      by-ready (mfs.Store g) is h = subst (IsReadyIn a.told) (sym is) tt
+  module _ (tree : Mfs) (o : OpensTree X N (Ok tree) a m t0 t1) where
+    still : m.told ≡ a.told
+    still = o.reads.told
 
-      by-kind : (f : MfsFault) → RefusesOpening f why → may_meet (kinds_placing path) (refusal_kind why) ≡ true
-      by-kind (mfs.Rule rule) is = absurd is
-      by-kind (mfs.Ready r) is = subst (λ w. may_meet (kinds_placing path) (refusal_kind w) ≡ true) (sym is) (ready-kind path)
-      by-kind mfs.Sink is = absurd is
-      by-kind (mfs.Store g) is = subst (λ w. may_meet (kinds_placing path) (refusal_kind w) ≡ true) (sym is) (tree-store path g).kind
+    calm : StaysCalm a m
+    calm = o.reads.cause
 
-      by-read : (f : MfsFault) → RefusesOpening f why → is_read {A = OpenSpot} (Err why) ≡ false
-      by-read (mfs.Rule rule) is = absurd is
-      by-read (mfs.Ready r) is = subst (λ w. is_read {A = OpenSpot} (Err w) ≡ false) (sym is) refl
-      by-read mfs.Sink is = absurd is
-      by-read (mfs.Store g) is = subst (λ w. is_read {A = OpenSpot} (Err w) ≡ false) (sym is) (tree-store path g).unread
+    low : t0 ≤ t1
+    low = o.touched.kept
 
-  module _ (tree : Mfs) (opens : (s : Standing) → TellsAs X N a.told s → Stood a.faults m.faults → Opens X N m.told s (Ok tree))
-      (lost : (p : Profile) (es : Entries) → NamesOver X N a.told p es → Stood a.faults m.faults → OpensOver X N a.told p es (Ok tree))
-      (head : ReadsHead a.told (Ok tree)) (calm : StaysCalm a m) (few : t1 ≤ t0 + 1) (low : t0 ≤ t1) where
+    few : t1 ≤ t0 + 1
+    few = o.touches
+
     stands-open : {B : Type 0} (r : Result B Refusal) (s : Standing) → TellsAs X N a.told s → Stood a.faults m.faults → OpensFound s r
-    stands-open r NoHead stands stood = absurd (opens NoHead stands stood)
-    stands-open r BadHead stands stood = absurd (opens BadHead stands stood)
+    stands-open r NoHead stands stood = absurd (o.opens NoHead stands stood)
+    stands-open r BadHead stands stood = absurd (o.opens BadHead stands stood)
     stands-open r (Stands p es) stands stood = tt
 
     -- the name isn't good
@@ -206,7 +187,7 @@ module _ (X : List ℕ → List ℕ) (N : List ℕ → ℕ) (dest : Path) (path 
       ready = of.ready;
       kinds = of.tree_or;
       unread = of.unread;
-      reads = record { cause = of.shown; told = told };
+      reads = record { cause = of.shown; told = still };
       touches = omega (arith, few);
       touched = of.up;
     }
@@ -235,17 +216,18 @@ module _ (X : List ℕ → List ℕ) (N : List ℕ → ℕ) (dest : Path) (path 
           added-names dest path name (v.1 ∙ ap (λ (n : Option (List ℕ)). Ok n) (sym v.2))
 
       over-open : (p : Profile) (es : Entries) → NamesOver X N a.told p es → Stood a.faults m.faults → StandsOver X N m.told tree p es
-      over-open p es names stood = subst (λ t. StandsOver X N t tree p es) (sym told) (lost p es names stood)
+      over-open p es names stood = subst (λ t. StandsOver X N t tree p es) (sym still) (o.lost p es names stood)
 
       front : m.faults ≤ b.faults → Stood a.faults b.faults → Stood a.faults m.faults
       front later stood = stood-front a.faults m.faults b.faults calm.faults later stood
 
-      pub unspotted : (f : MfsFault) (why : Refusal) → RefusesInTree f why → ShownInTree X (IsBadInTree X N None tree.root.cid) {A = Spot} (Err f) m b → b.told ≡ m.told → t2 ≤ t1 + 11 * (length dest.names + 1) → CountsUp (tree_fault {A = Spot} (Err f)) t1 t2
-          → SpotMisses X N m b tree (put_names dest name) (tree_fault {A = Spot} (Err f))
-          → ((p : Profile) (es : Entries) → StandsOver X N m.told tree p es → Stood m.faults b.faults → GivesOver X N m.told p es (λ (spot given : Spot). given ≡ spot) (spotted dest name es) (Err f))
+      pub unspotted : (r : Result Spot MfsFault) (why : Refusal) → IsRefusedAs RefusesInTree r (Err why) → ShownInTree X (IsBadInTree X N None tree.root.cid) r m b → b.told ≡ m.told → t2 ≤ t1 + 11 * (length dest.names + 1) → CountsUp (tree_fault r) t1 t2
+          → SpotMisses X N m b tree (put_names dest name) (tree_fault r)
+          → ((p : Profile) (es : Entries) → StandsOver X N m.told tree p es → Stood m.faults b.faults → GivesOver X N m.told p es (λ (spot given : Spot). given ≡ spot) (spotted dest name es) r)
           → FindsSpot X N dest path (Err why) a b t0 t2
-      unspotted f why is cause again more_few up misses finds =
-          let shown = Shown-tree Spot X (IsBadInTree X N None tree.root.cid) (IsBadInHead X N a.told) (λ role bytes bad. record { head = head_of tree; is_told = head; bad = bad }) f why m b is cause in
+      unspotted (Ok spot) why is cause again more_few up misses finds = absurd cc
+      unspotted (Err f) why is cause again more_few up misses finds =
+          let shown = Shown-tree Spot X (IsBadInTree X N None tree.root.cid) (IsBadInHead X N a.told) (λ role bytes bad. record { head = head_of tree; is_told = o.head; bad = bad }) f why m b is cause in
           let both = shown-after X (IsBadInHead X N a.told) (fault_behind why) a m b calm shown in
           let later = (shown-rises X (IsBadInHead X N a.told) (fault_behind why) m b shown).faults in
           let more = tree-touched Spot f why t1 t2 is up in
@@ -262,34 +244,35 @@ module _ (X : List ℕ → List ℕ) (N : List ℕ → ℕ) (dest : Path) (path 
             ready = not-ready-in a.told f why is;
             kinds = (fault-tree path f why is).kind;
             unread = (fault-tree path f why is).unread;
-            reads = record { cause = both; told = again ∙ told };
+            reads = record { cause = both; told = again ∙ still };
             touches = omega (arith, few, more_few);
             touched = record { kept = (let k = more.kept in omega (arith, low, k)); risen = λ blames. let k = more.risen blames in omega (arith, low, k) };
           }
         where
           follow : (p : Profile) (es : Entries) → IsLostBy m.told (spot_needs X N p (put_names dest name) (Dir es)) why ⊎ (by_rule (spotted dest name es) ≡ Err why)
               → IsLostBy a.told (placing_needs X N dest (row_name path) p es) why ⊎ (added_spot dest path es ≡ Err why)
-          follow p es (inl lost) = inl (subst (λ ns. IsLostBy a.told (spot_needs X N p ns (Dir es)) why) put-at (subst (λ t. IsLostBy t (spot_needs X N p (put_names dest name) (Dir es)) why) told lost))
+          follow p es (inl lost) = inl (subst (λ ns. IsLostBy a.told (spot_needs X N p ns (Dir es)) why) put-at (subst (λ t. IsLostBy t (spot_needs X N p (put_names dest name) (Dir es)) why) still lost))
           follow p es (inr is) = inr (sym (spot-by es) ∙ is)
 
-      pub found-spot : (spot : Spot) → StaysCalm m b → b.told ≡ m.told → t2 ≤ t1 + 11 * (length dest.names + 1) → CountsUp None t1 t2 → IsTrue (is_profile tree.profile)
-          → ((p : Profile) (es : Entries) → StandsOver X N m.told tree p es → Stood m.faults b.faults → GivesOver X N m.told p es (λ (spot given : Spot). given ≡ spot) (spotted dest name es) (Ok spot))
+      pub found-spot : (r : Result Spot MfsFault) (spot : Spot) → IsRefusedAs RefusesInTree r (Ok spot) → ShownInTree X (IsBadInTree X N None tree.root.cid) r m b → b.told ≡ m.told → t2 ≤ t1 + 11 * (length dest.names + 1) → CountsUp (tree_fault r) t1 t2
+          → ((p : Profile) (es : Entries) → StandsOver X N m.told tree p es → Stood m.faults b.faults → GivesOver X N m.told p es (λ (spot given : Spot). given ≡ spot) (spotted dest name es) r)
           → FindsSpot X N dest path (Ok (record { tree = tree; spot = spot })) a b t0 t2
-      found-spot spot later again more_few up mfs finds = record {
+      found-spot (Err f) spot is later again more_few up finds = absurd is
+      found-spot (Ok spot) given is later again more_few up finds = let same : given ≡ spot = cc in subst (λ (s : Spot). FindsSpot X N dest path (Ok (record { tree = tree; spot = s })) a b t0 t2) (sym same) (record {
         opens = λ s stands stood. stands-open (Ok (record { tree = tree; spot = spot })) s stands (front (calm-rises m b later).faults stood);
         lost = λ p es names stood.
             let over = over-open p es names (front (calm-rises m b later).faults stood) in
             let v = ok-value (λ (s : Spot). spot ≡ s) (by_rule (spotted dest name es)) (gives-ok (IsLossOf m.told (blocks X N p (Dir es))) (λ (spot given : Spot). given ≡ spot) (spotted dest name es) spot (finds p es over (stood-back a.faults m.faults b.faults calm.faults stood))) in
-            ok-for (λ s. IsFoundAt X N a.told p es s (record { tree = tree; spot = spot })) (added_spot dest path es) v.0 (sym (spot-by es) ∙ v.1) (record { spot_is = v.2; stands = subst (λ t. StandsOver X N t tree p es) told over });
-        head = head;
-        mfs = mfs;
+            ok-for (λ s. IsFoundAt X N a.told p es s (record { tree = tree; spot = spot })) (added_spot dest path es) v.0 (sym (spot-by es) ∙ v.1) (record { spot_is = v.2; stands = subst (λ t. StandsOver X N t tree p es) still over });
+        head = o.head;
+        mfs = o.mfs;
         ready = tt;
         kinds = tt;
         unread = refl;
-        reads = record { cause = StaysCalm-trans a m b calm later; told = again ∙ told };
+        reads = record { cause = StaysCalm-trans a m b calm later; told = again ∙ still };
         touches = omega (arith, few, more_few);
         touched = record { kept = (let k = up.kept in omega (arith, low, k)); risen = λ blames. absurd blames };
-      }
+      })
 
 -- ---- what is put
 
@@ -351,11 +334,12 @@ module _ (X : List ℕ → List ℕ) (N : List ℕ → ℕ) (tree new : Mfs) (sp
       (throughout b c (blocks X N p t ++ blocks X N p (Dir es)) (agrees-both b.told (blocks X N p t) (blocks X N p (Dir es)) first over.root.agrees) (agrees-both c.told (blocks X N p t) (blocks X N p (Dir es)) later last) can))
 
   -- it isn't placed
-  pub unplaced : (f : MfsFault) (why : Refusal) → RefusesInTree f why → ShownInTree X (IsBadInTree X N (Some tree.profile) tree.root.cid) {A = Unit {0}} (Err f) b c → KeepsGood X b.told c.told → SavesOnly X b.told c.told → SavesForPut X N b c tree given.entry spot → CountsUp (tree_fault {A = Unit {0}} (Err f)) t0 t1
-      → TouchesPut X N tree.profile b c given.entry tree.root put_most t0 t1 → PutMisses X N tree.profile b c tree.root (spot_names spot) (tree_fault {A = Unit {0}} (Err f))
-      → ((t : Tree) → IsPlanOf X N tree.profile given.entry t → MovesTree X N b c (blocks X N tree.profile t) tree new (spot_names spot) (λ p es. allowed X N p (put_at_spot spot t es)) (Err f))
+  pub unplaced : (r : Result (Unit {0}) MfsFault) (why : Refusal) → IsRefusedAs RefusesInTree r (Err why) → ShownInTree X (IsBadInTree X N (Some tree.profile) tree.root.cid) r b c → KeepsGood X b.told c.told → SavesOnly X b.told c.told → SavesForPut X N b c tree given.entry spot → CountsUp (tree_fault r) t0 t1
+      → TouchesPut X N tree.profile b c given.entry tree.root put_most t0 t1 → PutMisses X N tree.profile b c tree.root (spot_names spot) (tree_fault r)
+      → ((t : Tree) → IsPlanOf X N tree.profile given.entry t → MovesTree X N b c (blocks X N tree.profile t) tree new (spot_names spot) (λ p es. allowed X N p (put_at_spot spot t es)) r)
       → PutsGiven X N at_spot given (Err why) b c t0 t1
-  unplaced f why is cause good saves no_other up touches misses moves =
+  unplaced (Ok done) why is cause good saves no_other up touches misses moves = absurd cc
+  unplaced (Err f) why is cause good saves no_other up touches misses moves =
       let shown = Shown-tree (Unit {0}) X (IsBadInTree X N (Some tree.profile) tree.root.cid) (IsBadInTree X N (Some tree.profile) tree.root.cid) (λ role bytes bad. bad) f why b c is cause in
       let second : OnlySaves X (IsBadInTree X N (Some tree.profile) tree.root.cid) (fault_behind why) b c = record { cause = shown; good = good; saves = saves } in
       record {
@@ -373,11 +357,17 @@ module _ (X : List ℕ → List ℕ) (N : List ℕ → ℕ) (tree new : Mfs) (sp
         writes = record { between = c.told; saves = saves; last = Same refl };
       }
 
-  module _ (calm : StaysCalm b c) (good : KeepsGood X b.told c.told) (saves : SavesOnly X b.told c.told) (no_other : SavesForPut X N b c tree given.entry spot)
-      (moves : (t : Tree) → IsPlanOf X N tree.profile given.entry t → MovesTree X N b c (blocks X N tree.profile t) tree new (spot_names spot) (λ p es. allowed X N p (put_at_spot spot t es)) (Ok tt))
+  module _ (r : Result (Unit {0}) MfsFault) (done : r ≡ Ok tt) (shows : ShownInTree X (IsBadInTree X N (Some tree.profile) tree.root.cid) r b c) (good : KeepsGood X b.told c.told) (saves : SavesOnly X b.told c.told) (no_other : SavesForPut X N b c tree given.entry spot)
+      (places : (t : Tree) → IsPlanOf X N tree.profile given.entry t → MovesTree X N b c (blocks X N tree.profile t) tree new (spot_names spot) (λ p es. allowed X N p (put_at_spot spot t es)) r)
       (touches : TouchesPut X N tree.profile b c given.entry tree.root put_most t0 t1) (d : Seen) (kept : KeepsGood X c.told d.told) (t2 : ℕ) (no_more : t2 ≡ t1) (low : t0 ≤ t1) where
+    quiet : StaysCalm b c
+    quiet = subst (λ r. ShownInTree X (IsBadInTree X N (Some tree.profile) tree.root.cid) r b c) done shows
+
+    moves : (t : Tree) → IsPlanOf X N tree.profile given.entry t → MovesTree X N b c (blocks X N tree.profile t) tree new (spot_names spot) (λ p es. allowed X N p (put_at_spot spot t es)) (Ok tt)
+    moves t plan = subst (λ r. MovesTree X N b c (blocks X N tree.profile t) tree new (spot_names spot) (λ p es. allowed X N p (put_at_spot spot t es)) r) done (places t plan)
+
     placed_by : OnlySaves X (IsBadInTree X N (Some tree.profile) tree.root.cid) None b c
-    placed_by = record { cause = calm; good = good; saves = saves }
+    placed_by = record { cause = quiet; good = good; saves = saves }
 
     -- the tree before the commit
     before-commit : (start : Seen) (es : Entries) → OnlySaves X NoneIsBad None start b → ((l : List Held) → Agrees d.told l → Agrees c.told l) → c.faults ≤ d.faults → c.clashes ≤ d.clashes → IsFolderOver X N tree.profile start d [] tree.root es
@@ -386,8 +376,8 @@ module _ (X : List ℕ → List ℕ) (N : List ℕ → ℕ) (tree new : Mfs) (sp
       plan = over.plan;
       stays = record { first = over.stays.first; last = agrees (blocks X N tree.profile (Dir es)) over.stays.last };
       calm = record {
-        faults = stood-front start.faults c.faults d.faults (calm.faults ∙ first.cause.faults) faults over.calm.faults;
-        clashes = stood-front start.clashes c.clashes d.clashes (calm.clashes ∙ first.cause.clashes) clashes over.calm.clashes;
+        faults = stood-front start.faults c.faults d.faults (quiet.faults ∙ first.cause.faults) faults over.calm.faults;
+        clashes = stood-front start.clashes c.clashes d.clashes (quiet.clashes ∙ first.cause.clashes) clashes over.calm.clashes;
       };
     }
 
@@ -396,13 +386,14 @@ module _ (X : List ℕ → List ℕ) (N : List ℕ → ℕ) (tree new : Mfs) (sp
         let most = within t es start touches first placed_by plan is2 (before-commit start es first agrees faults clashes over) in omega (arith, most, no_more))
 
     -- it isn't committed
-    pub uncommitted : (f : MfsFault) (why : Refusal) → RefusesInTree f why → (Stood c.faults d.faults → IsWanting f) → LeavesHead c.told d.told → ShownInTree X NoneIsBad {A = Unit {0}} (Err f) c d
-        → CountsUp (tree_fault {A = Unit {0}} (Err f)) t1 t2 → PutsGiven X N at_spot given (Err why) b d t0 t2
-    uncommitted f why is wanting leaves cause up =
+    pub uncommitted : (r2 : Result (Unit {0}) MfsFault) (why : Refusal) → IsRefusedAs RefusesInTree r2 (Err why) → (Stood c.faults d.faults → IfErr r2 IsWanting) → OnErr r2 (LeavesHead c.told d.told) → ShownInTree X NoneIsBad r2 c d
+        → CountsUp (tree_fault r2) t1 t2 → PutsGiven X N at_spot given (Err why) b d t0 t2
+    uncommitted (Ok sent) why is wanting leaves cause up = absurd cc
+    uncommitted (Err f) why is wanting leaves cause up =
         let shown = Shown-tree (Unit {0}) X NoneIsBad (IsBadInTree X N (Some tree.profile) tree.root.cid) (λ role bytes bad. absurd bad) f why c d is cause in
         record {
           puts = λ start. puts-by (Err why) start d (λ t es first plan is2 over.
-              inl (subst (IsLostBy start.told (needs_at_spot X N spot tree.profile es)) (sym (tree-wants f why is (wanting (stood-back start.faults c.faults d.faults (calm.faults ∙ first.cause.faults) over.calm.faults)))) tt));
+              inl (subst (IsLostBy start.told (needs_at_spot X N spot tree.profile es)) (sym (tree-wants f why is (wanting (stood-back start.faults c.faults d.faults (quiet.faults ∙ first.cause.faults) over.calm.faults)))) tt));
           no_other = λ t p es same plan is2 over last can.
               no-other-trans X (next_blocks X N p (put_at_spot spot t es)) b.told c.told d.told
               (placed-saves good no_other t p es same plan is2 over (leaves-agrees c.told d.told (blocks X N p (Dir es)) leaves last) can)
@@ -410,7 +401,7 @@ module _ (X : List ℕ → List ℕ) (N : List ℕ → ℕ) (tree new : Mfs) (sp
           touches = λ start. within-commit start (λ l h. leaves-agrees c.told d.told l leaves h) (shown-rises X (IsBadInTree X N (Some tree.profile) tree.root.cid) (fault_behind why) c d shown).faults (shown-rises X (IsBadInTree X N (Some tree.profile) tree.root.cid) (fault_behind why) c d shown).clashes;
           text = tt;
           kinds = tree-kinds f why is;
-          cause = shown-after X (IsBadInTree X N (Some tree.profile) tree.root.cid) (fault_behind why) b c d calm shown;
+          cause = shown-after X (IsBadInTree X N (Some tree.profile) tree.root.cid) (fault_behind why) b c d quiet shown;
           good = KeepsGood-trans X b.told c.told d.told good kept;
           touched = λ blames. let more = (tree-touched (Unit {0}) f why t1 t2 is up).risen blames in omega (arith, low, more);
           head = leaves-head c.told d.told leaves ∙ saves-head X b.told c.told saves;
@@ -418,8 +409,9 @@ module _ (X : List ℕ → List ℕ) (N : List ℕ → ℕ) (tree new : Mfs) (sp
         }
 
     -- it is committed
-    pub committed : new.profile ≡ tree.profile → Commits new.profile new.root.cid c.told d.told → StaysCalm c d → PutsGiven X N at_spot given (Ok given.text) b d t0 t2
-    committed same commits later = record {
+    pub committed : (r2 : Result (Unit {0}) MfsFault) → IsRefusedAs RefusesInTree r2 (Ok tt) → new.profile ≡ tree.profile → OnOk r2 (Commits new.profile new.root.cid c.told d.told) → ShownInTree X NoneIsBad r2 c d → PutsGiven X N at_spot given (Ok given.text) b d t0 t2
+    committed (Err f) is same commits later = absurd is
+    committed (Ok sent) is same commits later = record {
       puts = λ start. puts-by (Ok given.text) start d (λ t es first plan is2 over.
           let old = blocks X N tree.profile (Dir es) in
           let rises = calm-rises c d later in
@@ -435,7 +427,7 @@ module _ (X : List ℕ → List ℕ) (N : List ℕ → ℕ) (tree new : Mfs) (sp
       touches = λ start. within-commit start (λ l h. commits-agrees c.told d.told new.profile new.root.cid l commits h) (calm-rises c d later).faults (calm-rises c d later).clashes;
       text = refl;
       kinds = tt;
-      cause = StaysCalm-trans b c d calm later;
+      cause = StaysCalm-trans b c d quiet later;
       good = KeepsGood-trans X b.told c.told d.told good kept;
       touched = λ blames. absurd blames;
       head = tt;

@@ -37,8 +37,8 @@ use Rattle.uf_command.specs.declared.types.Command.{Command}
 use Rattle.uf_command.specs.declared.types.Command.TheVariants.{Init, Add, WriteInput, At, Read, Cat, Get, Export, Import, Same, Adopt, Gen, Pin, Prove}
 use Rattle.uf_command.specs.declared.types.Refusal.{Refusal}
 use Rattle.uf_command.specs.declared.types.Refusal.TheVariants as refusal
-use Rattle.uf_top.specs.Causes.{HeadSays, IsBadAs, IsBadBlock, IsBadIn, IsMade, IsProfileOf, IsOpeningFault, OnlyWants, RefusesInTree, RefusesOpening}
-use Rattle.uf_edits.specs.Edits.{IsBadAsked, IsTreeFault}
+use Rattle.uf_top.specs.Causes.{HeadSays, IsBadAs, IsBadBlock, IsBadIn, IsMade, IsProfileOf, OnlyWants, RefusesInTree, RefusesOpening}
+use Rattle.uf_edits.specs.Edits.{IsBadAsked}
 use Rattle.uf_plain.specs.declared.rule.Rule.{Rule}
 use Rattle.uf_top.specs.Endings.{IsLongFor}
 use Rattle.uf_top.specs.Intake.{ShownIn}
@@ -58,18 +58,6 @@ shown-any hash Q r a b h = shown-by hash NoneIsBad Q (refusal_fault r) a b (λ r
 
 -- the faults of calls on the tree
 module _ (A : Type 0) (hash : List ℕ → List ℕ) (P : Role → List ℕ → Type 0) where
-  pub opening-fault : (f : MfsFault) (a b : Seen) → ShownOpening hash P {A = A} (Err f) a b → IsOpeningFault f
-  opening-fault (mfs.Rule rule) a b h = h
-  opening-fault (mfs.Ready why) a b h = tt
-  opening-fault mfs.Sink a b h = h
-  opening-fault (mfs.Store f) a b h = tt
-
-  pub tree-fault : (f : MfsFault) (a b : Seen) → ShownInTree hash P {A = A} (Err f) a b → IsTreeFault f
-  tree-fault (mfs.Rule rule) a b h = tt
-  tree-fault (mfs.Ready why) a b h = h
-  tree-fault mfs.Sink a b h = h
-  tree-fault (mfs.Store f) a b h = tt
-
   module _ (Q : Role → List ℕ → Type 0) (more : (role : Role) (bytes : List ℕ) → P role bytes → Q role bytes) where
     pub Shown-opening : (f : MfsFault) (w : Refusal) (a b : Seen) → RefusesOpening f w → ShownOpening hash P {A = A} (Err f) a b → Shown hash Q (fault_behind w) a b
     Shown-opening (mfs.Rule rule) w a b is h = absurd is

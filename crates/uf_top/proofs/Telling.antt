@@ -20,7 +20,7 @@ use Rattle.uf_tree.specs.Tree.{Dir, Entries}
 use Rattle.uf_tree.specs.TreePlan.{blocks}
 use Rattle.uf_tree.specs.declared.profile.Profile.{Profile}
 use Rattle.uf_command.specs.Commands.{HasInput, is_idle}
-use Rattle.uf_command.specs.Natures.{command_writes, needs_standing, only_reads, own_store, reads_tree_alone, uses_host, writes_host, OwnStore, NoStore, OfCarSections, OfTree, prints_after}
+use Rattle.uf_command.specs.Natures.{command_writes, needs_standing, own_store, reads_tree_alone, uses_host, writes_host, OwnStore, NoStore, OfCarSections, OfTree, prints_after}
 use Rattle.uf_command.specs.Natures.{streams as flows}
 use Rattle.uf_command.specs.Kinds.{IsOf, OfCar, OfClash, OfHost, OfLongInput, OfMissing, OfPath, OfPins, OfReady, OfRule, OfUsage, fault_behind, may_close, refusal_kind}
 use Rattle.uf_command.specs.Natures.{kinds_of, may_end, may_give}
@@ -29,7 +29,6 @@ use Rattle.uf_top.specs.Reply.{Outside, World, in_world, outside_of, reply}
 use Rattle.uf_command.specs.Statuses.{ended, no_memory, plain_line, status_of}
 use Rattle.uf_command.specs.declared.status.Status.{Status}
 use Rattle.uf_command.specs.declared.status.Status.TheVariants as status
-use Rattle.uf_command.specs.declared.types.Ask.TheVariants.{Ls, Stat, Edit as Edits}
 use Rattle.uf_command.specs.declared.types.Command.{Command}
 use Rattle.uf_command.specs.declared.types.Command.TheVariants.{Init, Add, WriteInput, At, Read, Cat, Get, Export, Import, Same, Adopt, Gen, Pin, Prove}
 use Rattle.uf_command.specs.declared.types.Adding.TheVariants as adding
@@ -55,6 +54,7 @@ use Rattle.uf_top.proofs.Pins.{pins-after}
 use Rattle.uf_store.proofs.Calls.{shown-by}
 use Rattle.uf_top.proofs.Shows.{bad-anywhere, blamed-block, blaming-of}
 use Rattle.uf_top.proofs.Standings.{stands-kept}
+use Rattle.uf_top.proofs.Wrote.{shape-good}
 
 -- ---- which kinds no command has
 
@@ -750,34 +750,6 @@ module _ (a b : Around) where
       synced-told (Gen n seed) done s t is = tt
       synced-told (Pin ask) done s t is = tt
 
-      pub good-told : (command : Command) (done : Result (Unit {0}) Refusal) → Does X N command done a b → KeepsGood X a.store.told b.store.told
-      good-told command done s = s.leaves.good
-
-      pub told-same : (command : Command) (done : Result (Unit {0}) Refusal) → Does X N command done a b → only_reads command ≡ true → b.store.told ≡ a.store.told
-      told-same (Init p) done s is = absurd cc
-      told-same (Add (adding.Input true)) done s is = s.leaves.writes
-      told-same (Add (adding.Input false)) done s is = absurd cc
-      told-same (Add (adding.InputTo dest)) done s is = absurd cc
-      told-same (Add (adding.HostTo recursive path dest)) done s is = absurd cc
-      told-same (WriteInput how path) done s is = absurd cc
-      told-same (At (Ls long) path) done s is = s.leaves.writes
-      told-same (At Stat path) done s is = s.leaves.writes
-      told-same (At (Edits edit) path) done s is = absurd cc
-      told-same (Read offset count path) done s is = s.leaves.writes
-      told-same (Prove absent path) done s is = s.leaves.writes
-      told-same (Cat path) done s is = s.leaves.writes
-      told-same (Get path host_path) done s is = s.leaves.writes
-      told-same (Export cid) done s is = s.leaves.writes
-      told-same Import done s is = absurd cc
-      told-same (Same cid) done s is = s.leaves.writes
-      told-same (Adopt source dest) done s is = absurd cc
-      told-same (Gen n seed) done s is = s.leaves.writes
-      told-same (Pin (pins.Add cid)) done s is = absurd cc
-      told-same (Pin (pins.Remove cid)) done s is = absurd cc
-      told-same (Pin pins.List) done s is = s.leaves.writes
-      told-same (Add (adding.Host recursive true path)) done s is = s.leaves.writes
-      told-same (Add (adding.Host recursive false path)) done s is = absurd cc
-
       pub idle-told : (command : Command) (done : Result (Unit {0}) Refusal) → Does X N command done a b → (p : Profile) (es : Entries) (bytes : List ℕ) → NamesOver X N a.store.told p es → HasInput (Ok command) a.left bytes a.reads b.reads → Stood a.store.faults b.store.faults
           → is_idle bytes es command ≡ true → b.store.told ≡ a.store.told
       idle-told command done s p es bytes stands input faults is = s.leaves.idle p es bytes stands (input, faults) is
@@ -799,7 +771,7 @@ module _ (a b : Around) where
           by done (λ own. s.answers world finds input (record { store = calm; written = write; own = own })) t (stays done s)
         where
           stays : (done : Result (Unit {0}) Refusal) → Does X N command done a b → (why : Refusal) → done ≡ Err why → has_details (status_of why) ≡ true → StandsIf X N (needs_standing command) b.store.told world.standing
-          stays done h why is detailed = still-stands X N a.store.told b.store.told (needs_standing command) world.standing h.leaves.good (detailed-kept why (prints_after command) a.store.told b.store.told detailed (subst (λ d. KeepsHead d (prints_after command) a.store.told b.store.told) is h.leaves.head)) finds.stands
+          stays done h why is detailed = still-stands X N a.store.told b.store.told (needs_standing command) world.standing (shape-good X (command_writes command) (is_done (ended done)) a.store.told b.store.told h.leaves.writes) (detailed-kept why (prints_after command) a.store.told b.store.told detailed (subst (λ d. KeepsHead d (prints_after command) a.store.told b.store.told) is h.leaves.head)) finds.stands
 
           ok-by : (done : Unit {0}) → DoesAnswer X N command world (Ok done) a.held b.held b.store.told b.host.told → TellsEnd Says (Ok done) given → EndsAs X N (Ok command) world given a b
           ok-by done (inl x) t = absurd (let e = x.ends_are in cc)

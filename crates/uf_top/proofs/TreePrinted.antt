@@ -6,13 +6,11 @@ use Rattle.uf_edge.specs.Counts.{Counts}
 use Rattle.uf_edge.specs.Streams.{after}
 use Rattle.uf_edge.specs.Streams as streams
 use Rattle.uf_mfs.specs.Touches.{IsBlaming}
-use Rattle.uf_plain.specs.declared.rule.Rule.{Rule}
 use Rattle.uf_store.specs.Faults.{Shown}
 use Rattle.uf_store.specs.Seen.{Seen}
 use Rattle.uf_store.specs.declared.store.StoreFault.{StoreFault}
 use Rattle.uf_store.specs.declared.store.StoreFault.TheVariants as fault
 use Rattle.uf_store.proofs.Causes.{StaysCalm-refl, calm-memory}
-use Rattle.uf_store.proofs.Keeping.{KeepsGood-refl}
 use Rattle.uf_tree.specs.Tree.{Entries}
 use Rattle.uf_tree.specs.declared.profile.Profile.{Profile}
 use Rattle.uf_command.specs.Natures.{OfTree}
@@ -141,7 +139,7 @@ module _ (X : List ℕ → List ℕ) (N : List ℕ → ℕ) (n seed : ℕ) (s : 
         touched = λ blames. absurd (of.blames blames);
         unready = λ e is. absurd cc;
         unplaced = λ p es names stood none. absurd none;
-        leaves = record { good = KeepsGood-refl X s.told; head = refl; writes = refl; idle = λ p es bytes stands calm is. absurd cc };
+        leaves = record { head = refl; writes = refl; idle = λ p es bytes stands calm is. absurd cc };
       }
     where
       ready : (why : Refusal) → IsGenerated X N n seed (Err why) → IsReadyBy s.told (Gen n seed) why
@@ -195,7 +193,7 @@ module _ (X : List ℕ → List ℕ) (N : List ℕ → ℕ) (n seed : ℕ) (s : 
       touched = λ blames. absurd blames;
       unready = λ e is. absurd cc;
       unplaced = λ p es names stood none. absurd none;
-      leaves = record { good = KeepsGood-refl X s.told; head = tt; writes = refl; idle = λ p es bytes stands calm is. absurd cc };
+      leaves = record { head = tt; writes = refl; idle = λ p es bytes stands calm is. absurd cc };
     }
       where
         answered : (world : World) → FindsWorld X N (Ok (Gen n seed)) s.told world → DoesAnswer X N (Gen n seed) world (Ok tt) h h2 s.told side.told
@@ -228,7 +226,7 @@ module _ (X : List ℕ → List ℕ) (N : List ℕ → ℕ) (n seed : ℕ) (s : 
       touched = λ blames. absurd blames;
       unready = λ e is. absurd cc;
       unplaced = λ p es names stood none. absurd none;
-      leaves = record { good = KeepsGood-refl X s.told; head = refl; writes = refl; idle = λ p es bytes stands calm is. absurd cc };
+      leaves = record { head = refl; writes = refl; idle = λ p es bytes stands calm is. absurd cc };
     }
 
     -- or the output failed

@@ -50,7 +50,7 @@ module _ (X : List ℕ → List ℕ) (N : List ℕ → ℕ) (command : Command) 
     touched = λ blames. absurd blames;
     unready = λ e is. absurd cc;
     unplaced = h.unplaced;
-    leaves = record { good = h.leaves.good; head = memory-head cid first second (prints_after command) a.store.told b.store.told h.leaves.head; writes = h.leaves.writes; idle = h.leaves.idle };
+    leaves = record { head = memory-head cid first second (prints_after command) a.store.told b.store.told h.leaves.head; writes = h.leaves.writes; idle = h.leaves.idle };
   }
 
   unclashed : (why : Refusal) → Does X N command (Err why) a b → Does X N command (Err (without_clash why)) a b

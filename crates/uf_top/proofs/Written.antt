@@ -2,24 +2,20 @@
 use Rattle.std.proofs.Common.{◌≡◌, ℕ, ◌+◌, ◌<◌, ◌≤◌, List, [], Bool, true, false, arith, refl, sym, ap, subst, ◌∙◌, inl, inr, Some, Result, Ok, Err}
 use Rattle.std.specs.Prelude.{IfSome, length, if◌then◌else◌}
 use Rattle.std.proofs.lemmas.Bool.{le-leb, lt-leb}
-use Rattle.uf_edge.specs.Counts.{Counts, Stood}
+use Rattle.uf_edge.specs.Counts.{Counts}
 use Rattle.uf_edge.specs.Streams.{IsWhole}
 use Rattle.uf_edge.specs.Streams as streams
-use Rattle.uf_mfs.specs.Answers.{ShownOpening}
 use Rattle.uf_mfs.specs.Bad.{IsBadInHead}
-use Rattle.uf_mfs.specs.Standing.{NamesOver, Opens, OpensOver, ReadsHead, Same, TellsAs, head_in}
-use Rattle.uf_mfs.specs.Steps.{tree_fault}
-use Rattle.uf_mfs.specs.Touches.{CountsUp, IsBlaming}
-use Rattle.uf_mfs.specs.declared.fault.MfsFault.{MfsFault}
+use Rattle.uf_mfs.specs.Standing.{Same, TellsAs, head_in}
+use Rattle.uf_mfs.specs.Touches.{IsBlaming}
 use Rattle.uf_mfs.specs.declared.mfs.Mfs.{Mfs}
 use Rattle.uf_path.specs.declared.path.Path.{Path}
 use Rattle.uf_plain.specs.declared.file.WriteHow.{WriteHow}
-use Rattle.uf_store.specs.Faults.{StaysCalm}
 use Rattle.uf_store.specs.Seen.{Seen}
 use Rattle.uf_store.specs.Contents.{Told}
 use Rattle.uf_store.specs.declared.store.StoreFault.{StoreFault}
 use Rattle.uf_store.specs.declared.store.StoreFault.TheVariants as fault
-use Rattle.uf_store.proofs.Keeping.{KeepsGood-same}
+use Rattle.uf_store.proofs.Calls.{shown-by}
 use Rattle.uf_store.proofs.Writing.{SavesOnly-refl}
 use Rattle.uf_tree.specs.Standing.{Standing, NoHead, BadHead, Stands}
 use Rattle.uf_tree.specs.Tree.{Dir, Entries}
@@ -35,18 +31,20 @@ use Rattle.uf_command.specs.declared.types.Refusal.{Refusal}
 use Rattle.uf_command.specs.declared.types.Refusal.TheVariants as refusal
 use Rattle.uf_top.specs.Answering.{Answers}
 use Rattle.uf_top.specs.Bounds.{command_touches}
-use Rattle.uf_top.specs.Causes.{IsBadIn, IsLongAt, IsReady, OnlyWants, RefusesOpening, TakesAll, is_read}
+use Rattle.uf_top.specs.Causes.{IsBadIn, IsLongAt, IsReady, IsReadyBy, OnlyWants, TakesAll, is_read}
 use Rattle.uf_top.specs.Losing.{AnswersOver, command_needs}
 use Rattle.uf_top.specs.Naming.{NamesAfter}
+use Rattle.uf_top.specs.Opening.{OpensTree}
 use Rattle.uf_top.specs.Around.{HostSide, SinkSide, around}
 use Rattle.uf_top.specs.Working.{Makes}
 use Rattle.uf_top.proofs.Added.{all_given, given_few, left_are}
-use Rattle.uf_top.proofs.Classed.{opening-kinds, tree-counts}
-use Rattle.uf_top.proofs.Finding.{Finds, at-whole}
-use Rattle.uf_top.proofs.InTree.{not-opened, opened, opening-ready}
+use Rattle.uf_top.proofs.Classed.{tree-counts, unopened-kinds}
+use Rattle.uf_top.proofs.Finding.{Finds, unopened-whole}
+use Rattle.uf_top.proofs.InTree.{not-opened, opened}
 use Rattle.uf_top.proofs.Losing.{lost-wants, names-same, opening-over}
+use Rattle.uf_top.proofs.Refusing.{by-unopened}
 use Rattle.uf_top.proofs.Saved.{nothing-written, written-kept}
-use Rattle.uf_top.proofs.Shows.{Shown-opening, bad-of-none, opening-touched, shown-any, wants-shown}
+use Rattle.uf_top.proofs.Shows.{bad-of-none, shown-any, wants-shown}
 use Rattle.uf_top.proofs.Standings.{stands-same, tells-none}
 use Rattle.uf_top.proofs.Unready.{not-unready, taken-unready}
 
@@ -159,7 +157,6 @@ module _ (how : WriteHow) (path : Path) where
         unready = λ e is. absurd (not-unready opened_kinds r refl refl opened_as is);
         unplaced = λ p es names stood none. absurd none;
         leaves = record {
-          good = mk.leaves.good;
           head = mk.leaves.head;
           writes = mk.leaves.writes;
           idle = λ p es bytes names calm same. mk.leaves.idle p es [] names ((λ e. absurd cc), calm.1) (subst (λ (bs : List ℕ). has_nothing_to_do (Write how bs) path.names es ≡ true) (given-is bytes calm.0) same);
@@ -168,7 +165,7 @@ module _ (how : WriteHow) (path : Path) where
 
     -- ---- the input isn't taken
 
-    module _ (a m : Seen) (told : m.told ≡ a.told) (l k : streams.Told) (i j : ℕ) (h : streams.Told) (w t0 t1 : ℕ) (side : HostSide) (er er2 : SinkSide) (opens_by : t1 ≤ t0 + 1) where
+    module _ (a m : Seen) (l k : streams.Told) (i j : ℕ) (h : streams.Told) (w t0 t1 : ℕ) (side : HostSide) (er er2 : SinkSide) where
       taken-answers : (why : Refusal) (bytes : List ℕ) (p : Profile) (es : Entries) → TakesAll (Err why) l k → Counts (is_read {A = List ℕ} (Err why)) i j → HasInput (Ok (WriteInput how path)) l bytes i j → TellsAs X N m.told (Stands p es)
           → Answers X N (Stands p es) (input_reply X N how path.names bytes p es) (Err why) m.told
       taken-answers (refusal.Rule rule) bytes p es takes counts input stands = absurd takes
@@ -306,50 +303,51 @@ module _ (how : WriteHow) (path : Path) where
       taken-blames refusal.Write takes blames = blames
       taken-blames (refusal.Store f) takes blames = subst (λ f. IsBlaming (Some f)) takes blames
 
-      pub input-refused : (mfs : Mfs) (why : Refusal) → ((s : Standing) → TellsAs X N a.told s → Stood a.faults m.faults → Opens X N m.told s (Ok mfs)) → StaysCalm a m
-          → TakesAll (Err why) l k → Counts (is_read {A = List ℕ} (Err why)) i j → Makes X N (WriteInput how path) (Err why) (around a l i h w t0 side er) (around m k j h w t1 side er2)
-      input-refused mfs why opens calm takes counts = record {
-        answers = λ world stands input calm2. let s = world.standing in let bytes = world.input in opened X N s (input_reply X N how path.names bytes) mfs m.told m.told (Err why) (opens s stands calm2.faults) (stands-same X N a.told m.told s told stands)
-            (λ p es at now. taken-answers why bytes p es takes counts input.0 now);
-        lost = λ p es heights held outside named input calm2. let bytes = outside.input in taken-over why bytes p es takes counts input.0 (names-same X N a.told m.told p es told named);
-        kinds = taken-kinds why takes;
-        ready = taken-ready why takes;
-        adds = taken-long why takes;
-        kept = nothing-written X N how path.names a m l told;
-        reads = counts;
-        host = refl;
-        rows = tt;
-        cause = shown-any X (IsBadIn X N a.told m.told) (Err why) a m (wants-shown X (Err why) a m (taken-wants why takes) calm);
-        whole = λ s stands calm2. taken-finds why takes;
-        touches = λ p es bytes rows named input heights calm2. omega (arith, opens_by);
-        touched = λ blames. absurd (taken-blames why takes blames);
-        unready = λ e is. absurd (taken-unready why l k takes is);
-        unplaced = λ p es names stood none. absurd none;
-        leaves = record { good = KeepsGood-same X a.told m.told told; head = ap head_in told; writes = record { between = a.told; saves = SavesOnly-refl X a.told; last = Same told }; idle = λ p es bytes stands given same. told };
-      }
+      pub input-refused : (mfs : Mfs) → OpensTree X N (Ok mfs) a m t0 t1 → (why : Refusal) → TakesAll (Err why) l k → Counts (is_read {A = List ℕ} (Err why)) i j
+          → Makes X N (WriteInput how path) (Err why) (around a l i h w t0 side er) (around m k j h w t1 side er2)
+      input-refused mfs o why takes counts =
+          let told = o.reads.told in
+          record {
+            answers = λ world stands input calm. let s = world.standing in let bytes = world.input in opened X N s (input_reply X N how path.names bytes) mfs m.told m.told (Err why) (o.opens s stands calm.faults) (stands-same X N a.told m.told s told stands)
+                (λ p es at now. taken-answers why bytes p es takes counts input.0 now);
+            lost = λ p es heights held outside named input calm. let bytes = outside.input in taken-over why bytes p es takes counts input.0 (names-same X N a.told m.told p es told named);
+            kinds = taken-kinds why takes;
+            ready = taken-ready why takes;
+            adds = taken-long why takes;
+            kept = nothing-written X N how path.names a m l told;
+            reads = counts;
+            host = refl;
+            rows = tt;
+            cause = shown-any X (IsBadIn X N a.told m.told) (Err why) a m (wants-shown X (Err why) a m (taken-wants why takes) o.reads.cause);
+            whole = λ s stands calm. taken-finds why takes;
+            touches = λ p es bytes rows named input heights calm. let one = o.touches in omega (arith, one);
+            touched = λ blames. absurd (taken-blames why takes blames);
+            unready = λ e is. absurd (taken-unready why l k takes is);
+            unplaced = λ p es names stood none. absurd none;
+            leaves = record { head = ap head_in told; writes = record { between = a.told; saves = SavesOnly-refl X a.told; last = Same told }; idle = λ p es bytes stands given same. told };
+          }
 
       -- ---- the tree isn't opened
 
-      pub input-unopened : (f : MfsFault) (why : Refusal) → RefusesOpening f why → ((s : Standing) → TellsAs X N a.told s → Stood a.faults m.faults → Opens X N m.told s (Err f))
-          → ((p : Profile) (es : Entries) → NamesOver X N a.told p es → Stood a.faults m.faults → OpensOver X N a.told p es (Err f))
-          → ReadsHead a.told (Err f) → CountsUp (tree_fault {A = Mfs} (Err f)) t0 t1 → ShownOpening X (IsBadInHead X N a.told) {A = Mfs} (Err f) a m → Makes X N (WriteInput how path) (Err why) (around a l i h w t0 side er) (around m l i h w t1 side er2)
-      input-unopened f why is opens lost head up cause = record {
-        answers = λ world stands input calm. let s = world.standing in let bytes = world.input in not-opened X N s (input_reply X N how path.names bytes) f why m.told is (opens s stands calm.faults) (stands-same X N a.told m.told s told stands);
-        lost = λ p es heights held outside named input calm. let bytes = outside.input in opening-over X N a.told m.told p es (blocks X N p (Dir es)) (input_reply X N how path.names bytes p es) f why is (lost p es named.names calm.faults)
-            (names-same X N a.told m.told p es told named);
-        kinds = tree-taken (Err why) (opening-kinds f why is);
-        ready = ready-taken a.told [] (Err why) (opening-ready a.told (Edits (Write how [])) path f why is head);
-        adds = not-long (Err why) l l (opening-kinds f why is);
-        kept = nothing-written X N how path.names a m l told;
-        reads = tree-counts (Err why) i (opening-kinds f why is);
-        host = refl;
-        rows = tt;
-        cause = Shown-opening Mfs X (IsBadInHead X N a.told) (IsBadIn X N a.told m.told) (bad-of-none X N a.told m.told) f why a m is cause;
-        whole = λ s stands calm. at-whole X N s (Edits (Write how [])) path.names (Err why) m.told
-            (not-opened X N s (tree_reply X N (Edits (Write how [])) path.names) f why m.told is (opens s stands calm.faults) (stands-same X N a.told m.told s told stands));
-        touches = λ p es bytes rows named input heights calm. omega (arith, opens_by);
-        touched = (opening-touched Mfs f why t0 t1 is up).risen;
-        unready = λ e is. record { told = told; left = refl; reads = refl };
-        unplaced = λ p es names stood none. absurd none;
-        leaves = record { good = KeepsGood-same X a.told m.told told; head = ap head_in told; writes = record { between = a.told; saves = SavesOnly-refl X a.told; last = Same told }; idle = λ p es bytes stands given same. told };
-      }
+      pub input-unopened : (why : Refusal) → OpensTree X N (Err why) a m t0 t1 → Makes X N (WriteInput how path) (Err why) (around a l i h w t0 side er) (around m l i h w t1 side er2)
+      input-unopened why o =
+          let told = o.reads.told in let kinds = unopened-kinds a.told why o.refused in
+          record {
+            answers = λ world stands input calm. let s = world.standing in not-opened X N s (input_reply X N how path.names world.input) why m.told (o.opens s stands calm.faults) (stands-same X N a.told m.told s told stands);
+            lost = λ p es heights held outside named input calm. opening-over X N a.told m.told p es (blocks X N p (Dir es)) (input_reply X N how path.names outside.input p es) why (o.lost p es named.names calm.faults)
+                (names-same X N a.told m.told p es told named);
+            kinds = tree-taken (Err why) kinds;
+            ready = by-unopened (IsReadyBy a.told (WriteInput how path)) a.told why (λ reason head. head) (λ f. tt) o.refused;
+            adds = not-long (Err why) l l kinds;
+            kept = nothing-written X N how path.names a m l told;
+            reads = tree-counts (Err why) i kinds;
+            host = refl;
+            rows = tt;
+            cause = shown-by X (IsBadInHead X N a.told) (IsBadIn X N a.told m.told) (fault_behind why) a m (bad-of-none X N a.told m.told) o.reads.cause;
+            whole = λ s stands calm. unopened-whole X N s why m.told (o.opens s stands calm.faults);
+            touches = λ p es bytes rows named input heights calm. let one = o.touches in omega (arith, one);
+            touched = o.touched.risen;
+            unready = λ e is. record { told = told; left = refl; reads = refl };
+            unplaced = λ p es names stood none. absurd none;
+            leaves = record { head = ap head_in told; writes = record { between = a.told; saves = SavesOnly-refl X a.told; last = Same told }; idle = λ p es bytes stands given same. told };
+          }

@@ -37,7 +37,7 @@ module _ (X : List ℕ → List ℕ) (N : List ℕ → ℕ) (before now : Around
   StatusShows command status.Memory = ⊤
   StatusShows command status.NotReady = IsNotReady command before now
 
-  -- a block that was called bad isn't canonical where it lay: in the tree that the Head names, or in a file
+  -- a block that was called bad isn't canonical where it lay: as a directory or a shard, or at its place in a file
   abbrev pub BlamesWhereRead : Status → Type 0
   BlamesWhereRead given = given ≡ status.BadBlock → (cid : Cid) × (role : Role)
       × ShowsBadBlock X (IsBadIn X N before.store.told now.store.told) cid role before.store now.store

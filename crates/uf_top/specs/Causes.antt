@@ -124,9 +124,9 @@ abbrev pub IsReady : {A : Type 0} → Told → Command → Result A Refusal → 
 IsReady told command (Ok a) = ⊤
 IsReady told command (Err why) = IsReadyBy told command why
 
--- the block isn't canonical in its role: in the tree that the Head names, or in a file that is read. Or, where the
--- profile of the Head is required, in that tree, in a file that is edited, or as the root of a file whose metadata is
--- changed
+-- the block isn't canonical in its role: as a directory or a shard, which isn't said to be one of the Head's tree, or at
+-- its place in a file that is read. Or, where the profile of the Head is required, as one of these, in a file that is
+-- edited, or as the root of a file whose metadata is changed
 abbrev pub IsBadIn : (List ℕ → List ℕ) → (List ℕ → ℕ) → (before now : Told) → Role → List ℕ → Type 0
 IsBadIn X N before now role bytes = IsBadInHead X N before role bytes
     ⊎ ((file : Cid) × IsBadInFile before file role bytes)

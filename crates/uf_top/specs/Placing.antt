@@ -1,5 +1,5 @@
 -- What is put into the tree that the Head names: the input as a file, or what the host has at a path.
-use Rattle.std.specs.Prelude.{◌≡◌, ◌⊎◌, ℕ, ◌<◌, ◌≤◌, ◌+◌, ◌*◌, List, [], ◌∷◌, ◌++◌, length, Bool, false, ⊤}
+use Rattle.std.specs.Prelude.{◌≡◌, ℕ, ◌<◌, ◌≤◌, ◌+◌, ◌*◌, List, [], ◌∷◌, ◌++◌, length, Bool, false, ⊤}
 use Rattle.std.specs.Prelude.{IfOk, IfErr, IfSome, IsErr, OnErr}
 use Rattle.std.specs.List.{flat_map}
 use Rattle.std.specs.declared.option.Option.{Option}
@@ -22,7 +22,6 @@ use Rattle.uf_mfs.specs.Steps.{IsFolderOver}
 use Rattle.uf_mfs.specs.Touches.{CountsUp, IsBlaming}
 use Rattle.uf_path.specs.declared.path.Path.{Path}
 use Rattle.uf_plain.specs.Moves.{allowed_move, placed_at, put_at_spot, spot_names, spotted}
-use Rattle.uf_plain.specs.declared.ready.Ready.{Ready}
 use Rattle.uf_plain.specs.declared.ready.Ready.TheVariants as ready
 use Rattle.uf_plain.specs.declared.spot.Spot.{Spot}
 use Rattle.uf_store.specs.Calls.{OnlyReads, OnlySaves}
@@ -51,6 +50,7 @@ use Rattle.uf_top.specs.Grafts.{FollowsOr, IsLostBy}
 use Rattle.uf_top.specs.HostTexts.{host_refusal, host_row}
 use Rattle.uf_top.specs.Losing.{placing_needs, row_name}
 use Rattle.uf_top.specs.Naming.{NamesAfter}
+use Rattle.uf_top.specs.Opening.{IsUnready}
 use Rattle.uf_top.specs.Reply.{added_spot, by_rule, host_tree, input_tree}
 use Rattle.uf_top.specs.Saving.{SavesNoOther}
 use Rattle.uf_top.specs.Shapes.{WritesInTree, is_ok}
@@ -98,11 +98,6 @@ pub record SaysInput (p : Profile) (left : streams.Told) (given : Result Tree Re
   pub bytes : List ℕ
   pub are_left : AreLeft left bytes
   pub is : given ≡ input_tree p bytes
-
--- a store that isn't ready refuses for this reason, or there was no memory
-abbrev pub IsUnready : {A : Type 0} → Ready → Result A Refusal → Type 0
-IsUnready why (Ok a) = ⊥
-IsUnready why (Err given) = (given ≡ no_memory) ⊎ (given ≡ refusal.Ready why)
 
 -- what is opened of a store that stands so
 abbrev pub OpensFound : {A : Type 0} → Standing → Result A Refusal → Type 0

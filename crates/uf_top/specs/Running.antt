@@ -1,5 +1,5 @@
 -- What became of words: they were refused, or a command did what is said of it. `run`, and each line of a batch, is so.
-use Rattle.std.specs.Prelude.{◌≡◌, ◌⊎◌, ℕ, ◌+◌, ◌<◌, ◌≤◌, List, Bool, true, false, IfSome}
+use Rattle.std.specs.Prelude.{◌≡◌, ◌⊎◌, ℕ, ◌+◌, ◌<◌, ◌≤◌, List, true, false, IfSome}
 use Rattle.std.specs.declared.result.Result.{Result}
 use Rattle.std.specs.declared.result.Result.TheVariants.{Ok, Err}
 use Rattle.uf_cid.specs.Blocks.{Lookup}
@@ -7,14 +7,13 @@ use Rattle.uf_edge.specs.Counts.{Stood}
 use Rattle.uf_mfs.specs.Reading.{AreHeights}
 use Rattle.uf_mfs.specs.Standing.{NamesOver, TellsAs, head_in}
 use Rattle.uf_command.specs.Commands.{HasInput, IsOfWords, is_idle}
-use Rattle.uf_command.specs.Natures.{command_writes, may_give, only_reads, prints_after}
+use Rattle.uf_command.specs.Natures.{command_writes, may_give, prints_after}
 use Rattle.uf_command.specs.Natures.{reads_tree_alone, streams as flows, writes_host}
 use Rattle.uf_command.specs.declared.status.Status.{Status}
 use Rattle.uf_command.specs.declared.status.Status.TheVariants as status
 use Rattle.uf_command.specs.declared.types.Command.{Command}
 use Rattle.uf_command.specs.declared.types.Refusal.{Refusal}
 use Rattle.uf_store.specs.Calls.{Calm}
-use Rattle.uf_store.specs.Keeping.{KeepsGood}
 use Rattle.uf_top.specs.Answering.{LeavesNext}
 use Rattle.uf_top.specs.Around.{Around, CountsCanRise, HasOutside, LeavesAlone, NoneFalls, SameButErrors, StaysQuiet}
 use Rattle.uf_top.specs.Bounds.{command_touches}
@@ -63,19 +62,18 @@ module _ (X : List ℕ → List ℕ) (N : List ℕ → ℕ) where
         (flows command) given before.held now.held
     pub synced : given ≡ status.Ok → IsSyncedFor command now.store.told
 
-  -- what a command leaves. What is good stays, only a command that is done moves the Head, or an `add --to-files` of
-  -- which only the output failed, and some commands leave all as it was; so does an edit that has nothing to do. Where
-  -- the store isn't ready for it, for its Head or its note of pins, a command has written nothing and read nothing of
-  -- the input. So it is where the tree that the Head names has no spot for what `add --to-files` adds, or `files cp`
-  -- copies from a DAG. Of the host `get` alone changes anything, also where it is refused or stopped. `pin add` and
-  -- `pin rm` that are done move the note of pins, and whatever else leaves it. `dag import` adds first sections of its
-  -- CAR, `add` blocks of what it reads, and a command that changes the tree blocks of the tree that it gives, of those
-  -- that it makes in between and of what it puts there, and each no others, also where it is refused
+  -- what a command leaves. It writes what its row says, and nothing else: what follows of good blocks is a law. Only a
+  -- command that is done moves the Head, or an `add --to-files` of which only the output failed. An edit that has
+  -- nothing to do leaves all as it was. Where the store isn't ready for it, for its Head or its note of pins, a command
+  -- has written nothing and read nothing of the input. So it is where the tree that the Head names has no spot for what
+  -- `add --to-files` adds, or `files cp` copies from a DAG. Of the host `get` alone changes anything, also where it is
+  -- refused or stopped. `pin add` and `pin rm` that are done move the note of pins, and whatever else leaves it.
+  -- `dag import` adds first sections of its CAR, `add` blocks of what it reads, and a command that changes the tree
+  -- blocks of the tree that it gives, of those that it makes in between and of what it puts there, and each no others,
+  -- also where it is refused
   pub record LeavesRight (command : Command) (given : Status) (before now : Around) : Type 0 where
     pub writes : WritesAs X (command_writes command) (is_done given) before.store.told now.store.told
-    pub good : KeepsGood X before.store.told now.store.told
     pub head : may_move (Ok command) given ≡ false → head_in now.store.told ≡ head_in before.store.told
-    pub told : only_reads command ≡ true → now.store.told ≡ before.store.told
     pub idle : (p : Profile) (es : Entries) (bytes : List ℕ) → NamesOver X N before.store.told p es
         → HasInput (Ok command) before.left bytes before.reads now.reads
         → Stood before.store.faults now.store.faults → is_idle bytes es command ≡ true

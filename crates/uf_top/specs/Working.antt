@@ -13,7 +13,6 @@ use Rattle.uf_path.specs.declared.path.Path.{Path}
 use Rattle.uf_store.specs.Calls.{Calm}
 use Rattle.uf_store.specs.Contents.{Told}
 use Rattle.uf_store.specs.Faults.{Shown}
-use Rattle.uf_store.specs.Keeping.{KeepsGood}
 use Rattle.uf_store.specs.Seen.{Seen}
 use Rattle.uf_tree.specs.Standing.{Standing, Stands}
 use Rattle.uf_tree.specs.Tree.{Dir, Entries}
@@ -50,11 +49,10 @@ use Rattle.uf_top.specs.Saving.{SavesNoOther, asked_blocks}
 use Rattle.uf_top.specs.Shapes.{WritesAs, WritesInTree, is_done, is_ok}
 
 module _ (X : List ℕ → List ℕ) (N : List ℕ → ℕ) where
-  -- what a command leaves before anything is printed: good blocks, the Head where it is refused or prints what it
-  -- hasn't put into the tree, all where nothing is to be done, and what it wrote
+  -- what a command leaves before anything is printed: the Head where it is refused or prints what it hasn't put into
+  -- the tree, all where nothing is to be done, and what it wrote
   pub record MakesLeaving (command : Command) (done : Result (List ℕ) Refusal) (before now : Told)
       (calm : List ℕ → Type 0) : Type 0 where
-    pub good : KeepsGood X before now
     pub head : HeadStays done (prints_after command) before now
     pub writes : WritesAs X (command_writes command) (is_ok done) before now
     pub idle : (p : Profile) (es : Entries) (bytes : List ℕ) → NamesOver X N before p es → calm bytes
@@ -95,11 +93,9 @@ module _ (X : List ℕ → List ℕ) (N : List ℕ → ℕ) where
         (λ bytes. HasInput (Ok command) before.left bytes before.reads now.reads
         × Stood before.store.faults now.store.faults)
 
-  -- what a command leaves: good blocks, the Head where it may not have moved, all where nothing is to be done, and what
-  -- it wrote
+  -- what a command leaves: the Head where it may not have moved, all where nothing is to be done, and what it wrote
   pub record DoesLeave (command : Command) (done : Result (Unit {0}) Refusal) (before now : Told)
       (calm : List ℕ → Type 0) : Type 0 where
-    pub good : KeepsGood X before now
     pub head : KeepsHead done (prints_after command) before now
     pub writes : WritesAs X (command_writes command) (is_done (ended done)) before now
     pub idle : (p : Profile) (es : Entries) (bytes : List ℕ) → NamesOver X N before p es → calm bytes
@@ -185,7 +181,6 @@ module _ (X : List ℕ → List ℕ) (N : List ℕ → ℕ) where
         → StaysNamed X N before.told now.told p es → AreHeights p rows → Calm before now
         → is ≤ was + ask_touches X N rows ask path.names p es
     pub touched : CountsUp (refusal_fault done) was is
-    pub good : KeepsGood X before.told now.told
     pub head : HeadStays done false before.told now.told
     pub writes : WritesInTree X tree.profile (ask_writes ask) (is_ok done) before.told now.told
     pub kept : (p : Profile) (es : Entries) → StandsOver X N before.told tree p es

@@ -77,7 +77,7 @@ pub fn run<S: Sweep, N: NameHash, W: Host, I: Source, O: Sink, E: Sink, L: Ledge
         (lent I.Source O.Sink W.Host E.Sink (S.seen store.old) input.old output.old touches.old host.old errors.old)
         (lent I.Source O.Sink W.Host E.Sink (S.seen store.new) input.new output.new touches.new host.new errors.new) }
 
-    // A block that is called bad isn't canonical where it lay: in the tree that the Head names, or in a file.
+    // A block that is called bad isn't canonical where it lay: as a directory or a shard, or at its place in a file.
     ensures blames { (asked : TheResult TheCommand TheRefusal)
         → request_in (map string_bytes words.now) ≡ requests.One asked
         → BlamesWhereRead S.X.block32 N.name64

@@ -23,7 +23,7 @@ ghost use Rattle.uf_top.specs.Working.{Makes};
 
 use crate::commands::add::file_given;
 use crate::commands::add_from::rows_given;
-use crate::commands::files::{opening, refusal};
+use crate::commands::files::{opened, refusal};
 use crate::given::{Given, OpenSpot};
 use std::alloc::Global;
 use std::sync::ledger::Ledger;
@@ -32,7 +32,6 @@ use uf_cid::{Block, Text};
 use uf_command::{HostRule, Refusal};
 use uf_edge::{Host, Source};
 use uf_host::{add_apart, last_name};
-use uf_mfs::Mfs;
 use uf_murmur::NameHash;
 use uf_path::Path;
 use uf_store::{Steps, Store, StoreFault};
@@ -84,16 +83,11 @@ fn find<S: Store, N: NameHash, L: Ledger>(
     ensures { FindsSpot S.X.block32 N.name64 dest.now (option_copied path.entry) result (S.seen store.old)
         (S.seen store.new) touches.old touches.new }
 {
-    match Mfs::from_store::<S, N, L>(alloc, store, touches) {
-        Err(fault) => Err(opening(fault)),
-        Ok(tree) => {
-            let name = added_name(alloc, dest, path)?;
-            match tree.spot::<S, N, L>(alloc, store, dest, name.as_ref(), touches) {
-                Err(fault) => Err(refusal(fault)),
-                Ok(spot) => Ok(OpenSpot { tree, spot }),
-            }
-        }
-    }
+    let tree = opened::<S, N, L>(alloc, store, touches)?;
+    let name = added_name(alloc, dest, path)?;
+    let found = tree.spot::<S, N, L>(alloc, store, dest, name.as_ref(), touches);
+    let spot = found.map_err(refusal)?;
+    Ok(OpenSpot { tree, spot })
 }
 
 // The name of what is added, where the destination is entered.
@@ -124,13 +118,11 @@ fn put<S: Store, N: NameHash, L: Ledger>(
         touches.new }
 {
     let OpenSpot { mut tree, spot } = found;
-    match tree.place::<S, N, L>(alloc, store, &spot, &given.entry, touches) {
-        Err(fault) => Err(refusal(fault)),
-        Ok(()) => match tree.commit::<S, N, L>(alloc, store, touches) {
-            Err(fault) => Err(refusal(fault)),
-            Ok(()) => Ok(given.text),
-        },
-    }
+    tree.place::<S, N, L>(alloc, store, &spot, &given.entry, touches)
+        .map_err(refusal)?;
+    tree.commit::<S, N, L>(alloc, store, touches)
+        .map_err(refusal)?;
+    Ok(given.text)
 }
 
 // The input as a file, whose blocks are saved; they are counted apart.

@@ -167,13 +167,8 @@ fn compare_stores<S: Store, R: Store<X = S::X>, L: Ledger>(
     ensures { ComparesStores S.X.block32 cid.now root.now result (S.seen left.old) (S.seen left.new)
         (R.seen right.old).told }
 {
-    match same(alloc, left, right, cid, root, MOST_BLOCKS, touches) {
-        Err(fault) => Err(same_refusal(fault)),
-        Ok(found) => {
-            let text = compared_text(alloc, &found)?;
-            Ok(text)
-        }
-    }
+    let found = same(alloc, left, right, cid, root, MOST_BLOCKS, touches).map_err(same_refusal)?;
+    Ok(compared_text(alloc, &found)?)
 }
 
 // Why two stores weren't compared, as a refusal.

@@ -7,6 +7,7 @@ ghost use Rattle.uf_top.specs.Causes.{IsMade, IsOpeningFault, IsSendingFault};
 ghost use Rattle.uf_edits.specs.Edits.{IsTreeFault};
 ghost use Rattle.uf_top.specs.Causes.{RefusesInTree, RefusesOpening, RefusesSending};
 ghost use Rattle.uf_top.specs.Lent.{OverStore};
+ghost use Rattle.uf_top.specs.Opening.{OpensTree};
 ghost use Rattle.uf_top.specs.Working.{Makes, WorksAt};
 ghost use Rattle.uf_command.specs.declared.types.Ask.TheVariants as asks;
 ghost use Rattle.uf_command.specs.declared.types.Command.TheVariants as commands;
@@ -49,10 +50,19 @@ pub fn at<S: Store, N: NameHash, L: Ledger>(
     ensures { OverStore (Makes S.X.block32 N.name64 (commands.At ask.now path.now) result)
         (S.seen store.old) touches.old (S.seen store.new) touches.new }
 {
-    match Mfs::from_store::<S, N, L>(alloc, store, touches) {
-        Err(fault) => Err(opening(fault)),
-        Ok(tree) => in_tree::<S, N, L>(alloc, tree, ask, path, store, touches),
-    }
+    let tree = opened::<S, N, L>(alloc, store, touches)?;
+    in_tree::<S, N, L>(alloc, tree, ask, path, store, touches)
+}
+
+// The tree that the Head names.
+pub fn opened<S: Store, N: NameHash, L: Ledger>(
+    alloc: Global,
+    store: &mut S,
+    touches: &mut Steps<L>,
+) -> Result<Mfs, Refusal>
+    ensures { OpensTree S.X.block32 N.name64 result (S.seen store.old) (S.seen store.new) touches.old touches.new }
+{
+    Mfs::from_store::<S, N, L>(alloc, store, touches).map_err(opening)
 }
 
 // Does what is asked at a path of an opened tree.
@@ -144,7 +154,7 @@ pub fn edit_at<S: Store, N: NameHash, L: Ledger>(
 }
 
 // The fault of a call that opens a tree as a refusal. No rule refuses that, and nothing is printed there.
-pub fn opening(fault: MfsFault) -> Refusal
+fn opening(fault: MfsFault) -> Refusal
     requires { IsOpeningFault fault }
     ensures { RefusesOpening fault result }
 {

@@ -28,7 +28,7 @@ ghost use Rattle.uf_top.specs.Naming.{TellsBlocks};
 ghost use Rattle.uf_top.specs.Working.{Does};
 
 use crate::commands::cat::{USUAL, tree_in};
-use crate::commands::files::{opening, refusal};
+use crate::commands::files::{opened, refusal};
 use std::alloc::Global;
 use std::sync::ledger::Ledger;
 use uf_adopt::{AdoptFault, adopt_surveyed};
@@ -53,10 +53,8 @@ pub fn graft<S: Store, N: NameHash, L: Ledger>(
     ensures { OverStore (Does S.X.block32 N.name64 (commands.Adopt source.now dest.now) result)
         (S.seen store.old) touches.old (S.seen store.new) touches.new }
 {
-    match Mfs::from_store::<S, N, L>(alloc, store, touches) {
-        Err(fault) => Err(opening(fault)),
-        Ok(tree) => graft_in::<S, N, L>(alloc, tree, source, dest, store, touches),
-    }
+    let tree = opened::<S, N, L>(alloc, store, touches)?;
+    graft_in::<S, N, L>(alloc, tree, source, dest, store, touches)
 }
 
 // The same in an opened tree.
@@ -75,10 +73,8 @@ fn graft_in<S: Store, N: NameHash, L: Ledger>(
 {
     let mut tree = tree;
     grafted::<S, N, L>(alloc, &mut tree, source, dest, store, touches)?;
-    match tree.commit::<S, N, L>(alloc, store, touches) {
-        Err(fault) => Err(refusal(fault)),
-        Ok(()) => Ok(()),
-    }
+    tree.commit::<S, N, L>(alloc, store, touches)
+        .map_err(refusal)
 }
 
 // The same in memory.

@@ -4,12 +4,11 @@ ghost use Rattle.uf_top.specs.Lent.{OverOutput};
 ghost use Rattle.uf_top.specs.Working.{Does};
 ghost use Rattle.uf_command.specs.declared.types.Command.TheVariants as commands;
 
-use crate::commands::files::{opening, sending};
+use crate::commands::files::{opened, sending};
 use std::alloc::Global;
 use std::sync::ledger::Ledger;
 use uf_command::Refusal;
 use uf_edge::Sink;
-use uf_mfs::Mfs;
 use uf_murmur::NameHash;
 use uf_path::Path;
 use uf_store::{Steps, Store};
@@ -27,13 +26,8 @@ pub fn send_part<S: Store, N: NameHash, O: Sink, L: Ledger>(
     ensures { OverOutput O.Sink (Does S.X.block32 N.name64 (commands.Read offset count path.now) result)
         (S.seen store.old) output.old touches.old (S.seen store.new) output.new touches.new }
 {
-    match Mfs::from_store::<S, N, L>(alloc, store, touches) {
-        Err(fault) => Err(opening(fault)),
-        Ok(tree) => {
-            match tree.read::<S, N, O, L>(alloc, store, path, offset, count, output, touches) {
-                Err(fault) => Err(sending(fault)),
-                Ok(_) => Ok(()),
-            }
-        }
-    }
+    let tree = opened::<S, N, L>(alloc, store, touches)?;
+    tree.read::<S, N, O, L>(alloc, store, path, offset, count, output, touches)
+        .map_err(sending)?;
+    Ok(())
 }

@@ -6,13 +6,12 @@ ghost use Rattle.uf_top.specs.Lent.{OverInput};
 ghost use Rattle.uf_top.specs.Working.{Makes};
 ghost use Rattle.uf_command.specs.declared.types.Command.TheVariants as commands;
 
-use crate::commands::files::{edit_at, opening};
+use crate::commands::files::{edit_at, opened};
 use std::alloc::Global;
 use std::sync::ledger::Ledger;
 use uf_cid::Block;
 use uf_command::{Edit, Refusal};
 use uf_edge::{Intake, Source, read_all};
-use uf_mfs::Mfs;
 use uf_murmur::NameHash;
 use uf_path::Path;
 use uf_plain::WriteHow;
@@ -33,14 +32,10 @@ pub fn write_input<S: Store, N: NameHash, I: Source, L: Ledger>(
     ensures { OverInput I.Source (Makes S.X.block32 N.name64 (commands.WriteInput how path.now) result)
         (S.seen store.old) input.old touches.old (S.seen store.new) input.new touches.new }
 {
-    match Mfs::from_store::<S, N, L>(alloc, store, touches) {
-        Err(fault) => Err(opening(fault)),
-        Ok(tree) => {
-            let piece = taken(alloc, input)?;
-            let edit = Edit::Write { how, piece };
-            edit_at::<S, N, L>(alloc, tree, &edit, path, store, touches)
-        }
-    }
+    let tree = opened::<S, N, L>(alloc, store, touches)?;
+    let piece = taken(alloc, input)?;
+    let edit = Edit::Write { how, piece };
+    edit_at::<S, N, L>(alloc, tree, &edit, path, store, touches)
 }
 
 // All of the input.

@@ -9,14 +9,13 @@ ghost use Rattle.uf_top.specs.Lent.{OverOutput};
 ghost use Rattle.uf_top.specs.Light.{EndsLight, IsLightTold};
 ghost use Rattle.uf_top.specs.Working.{Does};
 
-use crate::commands::files::opening;
+use crate::commands::files::opened;
 use std::alloc::Global;
 use std::sync::ledger::Ledger;
 use uf_cid::{BlockHash, Cid};
 use uf_command::{DagRule, Refusal, car_refusal};
 use uf_edge::{Sink, Source};
 use uf_light::{Asked, LightFault, check, prove};
-use uf_mfs::Mfs;
 use uf_murmur::NameHash;
 use uf_path::Path;
 use uf_plain::{Refused, rule_at};
@@ -40,15 +39,10 @@ pub fn prove_at<S: Store, N: NameHash, O: Sink, L: Ledger>(
     ensures { OverOutput O.Sink (Does S.X.block32 N.name64 (commands.Prove absent path.now) result)
         (S.seen store.old) output.old touches.old (S.seen store.new) output.new touches.new }
 {
+    let tree = opened::<S, N, L>(alloc, store, touches)?;
     let names = &path.names;
-    match Mfs::from_store::<S, N, L>(alloc, store, touches) {
-        Err(fault) => Err(opening(fault)),
-        Ok(tree) => {
-            let root = &tree.root;
-            let done = prove::<S, N, O, L>(alloc, store, root, names, absent, output, touches);
-            end(alloc, names.as_slice(), done)
-        }
-    }
+    let done = prove::<S, N, O, L>(alloc, store, &tree.root, names, absent, output, touches);
+    end(alloc, names.as_slice(), done)
 }
 
 // Reads the input as the proof of what is at a path below a root, and writes that.

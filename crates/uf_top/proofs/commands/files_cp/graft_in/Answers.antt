@@ -1,11 +1,6 @@
 use Rattle.std.proofs.lemmas.Result.{err_from_is_err_and}
-use Rattle.uf_store.specs.Faults.{NoneIsBad}
-use Rattle.uf_top.proofs.Adopted.{graft-committed, graft-refused, graft-uncommitted}
-use Rattle.uf_top.proofs.Shows.{tree-fault}
+use Rattle.uf_top.proofs.Adopted.{graft-ended, graft-refused}
 use Rattle.uf_top.proofs.commands.files_cp.graft_in.Goals as goal
-
-pub refusal-requires : goal.refusal-requires
-refusal-requires g c = tree-fault (Unit {0}) g.S.X.BlockHash.block32 NoneIsBad c.in-Err.fault (g.S.Store.seen c.grafted.new.store) (g.S.Store.seen c.commit.new.store) c.in-Err.ensures.cause
 
 pub returns-in_err-grafted : goal.returns-in_err-grafted
 returns-in_err-grafted g c =
@@ -14,14 +9,8 @@ returns-in_err-grafted g c =
     graft-refused g.S.X.BlockHash.block32 g.N.NameHash.name64 c.args.tree c.grafted.new.tree c.args.source.now c.args.dest.now (g.S.Store.seen c.args.store.now) (g.S.Store.seen c.grafted.new.store)
     c.in_err-grafted.field-0.0 e.puts e.saves e.unplaced e.no_other e.kinds c.args.touches.now c.grafted.new.touches e.touched)
 
-pub returns-in-Err : goal.returns-in-Err
-returns-in-Err g c =
-    let e = c.in_ok-grafted.ensures in let k = c.in-Err.ensures in
-    graft-uncommitted g.S.X.BlockHash.block32 g.N.NameHash.name64 c.args.tree c.grafted.new.tree c.args.source.now c.args.dest.now (g.S.Store.seen c.args.store.now) (g.S.Store.seen c.grafted.new.store) (g.S.Store.seen c.commit.new.store)
-    e.puts e.saves e.unplaced e.no_other k.good c.in-Err.fault c.refusal.result c.refusal.ensures k.answer k.leaves k.cause c.args.touches.now c.grafted.new.touches c.commit.new.touches e.touched k.touched
-
-pub returns-in-Ok : goal.returns-in-Ok
-returns-in-Ok g c =
-    let e = c.in_ok-grafted.ensures in let k = c.in-Ok.ensures in
-    graft-committed g.S.X.BlockHash.block32 g.N.NameHash.name64 c.args.tree c.grafted.new.tree c.args.source.now c.args.dest.now (g.S.Store.seen c.args.store.now) (g.S.Store.seen c.grafted.new.store) (g.S.Store.seen c.commit.new.store)
-    e.puts e.saves e.unplaced e.no_other k.good e.profile k.commits k.cause c.args.touches.now c.commit.new.touches
+pub returns : goal.returns
+returns g c =
+    let e = c.in_ok-grafted.ensures in let k = c.commit.ensures in
+    graft-ended g.S.X.BlockHash.block32 g.N.NameHash.name64 c.args.tree c.grafted.new.tree c.args.source.now c.args.dest.now (g.S.Store.seen c.args.store.now) (g.S.Store.seen c.grafted.new.store) (g.S.Store.seen c.commit.new.store)
+    e.puts e.saves e.unplaced e.no_other k.good c.commit.result c.map_err.result c.map_err.ensures.cases e.profile k.answer k.commits k.leaves k.cause c.args.touches.now c.grafted.new.touches c.commit.new.touches e.touched k.touched
