@@ -4,7 +4,8 @@ Each link of a document leads to a file. Each definition that docs/TRUST.md list
 crate has a README of at most sixty lines. Each clause (or fact of a record that is one) and each edit that a table there
 names is in the crate: a row is a claim, its clauses, and the edits that it refuses. An edit in brackets is one of those
 that checks/edits tries. The manual's table of diagnostics has each error line that the definitions can say, and no other;
-its table that says the nature of each command has the rows of the definition `nature`.
+its table that says the nature of each command has the rows of the definition `nature`. A counter of touches is begun only in
+the files that docs/TRUST.md names, and in tests.
 """
 
 import os
@@ -64,6 +65,21 @@ def crates():
     """The crates that crates.txt lists."""
     lines = text_of("crates.txt").splitlines()
     return [line.partition(":")[0].split()[0] for line in lines if line.strip() and not line.startswith("#")]
+
+
+def wrong_counters():
+    """Files that begin a counter of touches and that docs/TRUST.md doesn't name, and those that it names and that begin none."""
+    told = set(re.findall(r"`(crates/[^`]+\.rt)`", text_of("docs", "TRUST.md")))
+    held = set()
+    for crate in crates():
+        for place, _, names in os.walk(os.path.join(TOP, "crates", crate, "src")):
+            files = [os.path.relpath(os.path.join(place, name), TOP) for name in names]
+            held |= {it for it in files if it.endswith(".rt") and re.search(r"\b(Brand|impl Ledger)\b", text_of(it))}
+    for name in sorted(held - told):
+        if not name.startswith(("crates/uf_test", "crates/uf_rows", "crates/uf_calls")):
+            yield f"{name} begins a counter of touches, and docs/TRUST.md doesn't name it"
+    for name in sorted(told - held):
+        yield f"docs/TRUST.md: {name} begins no counter of touches"
 
 
 def wrong_pages():
@@ -216,7 +232,7 @@ def main():
     if not wrong:
         wrong = [line for name in sorted(names) for line in wrong_links(name)]
         wrong += [line for crate in crates() for line in wrong_rows(crate)]
-    wrong += [*wrong_definitions(), *wrong_lines(), *wrong_natures()]
+    wrong += [*wrong_definitions(), *wrong_lines(), *wrong_natures(), *wrong_counters()]
     for line in wrong:
         print("documents: " + line)
     print(f"documents: {len(names)} held, {len(wrong)} wrong")
