@@ -32,6 +32,7 @@ impl Caller for DagCalls {
             "look" => edits::look(call, rest)?,
             "ahead" => edits::ahead(call, rest)?,
             "survey" => foreign::survey(call, rest)?,
+            "survey-nodes" => foreign::survey_nodes(call, rest)?,
             "shallow" => foreign::shallow(call, rest)?,
             "stream" => foreign::stream(call, rest)?,
             _ => return call_directory(call, word, rest),

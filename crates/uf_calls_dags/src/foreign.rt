@@ -64,6 +64,16 @@ pub fn survey<X: BlockHash, L: Ledger>(call: &mut Call<X, L>, rest: &str) -> Res
     say_dag(call.alloc, &dag, call.told)
 }
 
+/// Reads the nodes below a CID, and asks for its leaves: `survey-nodes DEPTH VISITS CID`.
+pub fn survey_nodes<X: BlockHash, L: Ledger>(
+    call: &mut Call<X, L>,
+    rest: &str,
+) -> Result<(), Memory> {
+    let (limits, cid) = limits_and_cid(rest);
+    let dag = uf_lenient::survey_nodes(call.alloc, call.store, &cid, &limits, call.touches);
+    say_dag(call.alloc, &dag, call.told)
+}
+
 /// Reads one directory: `shallow DEPTH VISITS CID`.
 pub fn shallow<X: BlockHash, L: Ledger>(call: &mut Call<X, L>, rest: &str) -> Result<(), Memory> {
     let (limits, cid) = limits_and_cid(rest);

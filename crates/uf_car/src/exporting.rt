@@ -13,19 +13,20 @@ ghost use Rattle.uf_car.specs.Exporting.{export_fault, is_sink_fault};
 ghost use Rattle.uf_car.specs.Text.{car_text, section_bytes};
 
 use crate::ExportFault;
-use crate::foreseeing::{foresee_met, foresee_next};
+use crate::foreseeing::foresee_met;
 use crate::parts::{car_head, car_section};
 use std::alloc::Global;
 use std::sync::ledger::Ledger;
-use uf_cid::{Cid, cids_are_whole};
+use uf_cid::{Cid, Codec, cids_are_whole};
 use uf_edge::{Sent, Sink};
-use uf_store::{Steps, Store, need};
+use uf_store::{Steps, Store, need, need_there};
 use uf_varint::width;
 use uf_walk::{Turn, Walk};
 
 /// Writes the CAR of a root: the header, and a section for each block that links lead to from the root, in first-visit
-/// depth-first order (CARv1). All is walked before anything is written. It answers the number of bytes. Two touches
-/// for each block.
+/// depth-first order (CARv1). All is walked before anything is written. Of a raw block it is only asked then whether
+/// it is there, and it is loaded once, as it is written: so one that is damaged ends the export within the text. It
+/// answers the number of bytes. Two touches for each block.
 pub fn export<S: Store, O: Sink, L: Ledger>(
     alloc: Global,
     store: &mut S,
@@ -87,7 +88,7 @@ fn walk_all<S: Store, L: Ledger>(
     }
 }
 
-// Hands the block that is due to a walk.
+// Hands the block that is due to a walk, or tells it of a raw one that is there.
 fn take_block<S: Store, L: Ledger>(
     walk: &mut Walk,
     store: &mut S,
@@ -101,7 +102,46 @@ fn take_block<S: Store, L: Ledger>(
     ensures reads { OnlyReads S.X.block32 NoneIsBad (export_fault result) (S.seen store.old) (S.seen store.new) }
     ensures no_sink { is_sink_fault result ≡ false }
 {
-    foresee_next(store, cid, walk.next_ones());
+    match cid.codec {
+        Codec::Raw => take_leaf(walk, store, cid, touches),
+        Codec::DagPb => take_node(walk, store, cid, touches),
+    }
+}
+
+// Tells a walk that the raw block that is due is there. Whatever its bytes are, it links none.
+fn take_leaf<S: Store, L: Ledger>(
+    walk: &mut Walk,
+    store: &mut S,
+    cid: &Cid,
+    touches: &mut Steps<L>,
+) -> Result<(), ExportFault>
+    requires due { walk.old.due ≡ Some cid.now }
+    requires raw { cid.now.codec ≡ Codec.Raw }
+    ensures order { (t : Contents) → (S.seen store.old).told ≡ Some t
+        → FollowsOrder (held_at t) result walk.old walk.new }
+    ensures taken { OnOk result (HasTaken walk.old walk.new) }
+    ensures reads { OnlyReads S.X.block32 NoneIsBad (export_fault result) (S.seen store.old) (S.seen store.new) }
+    ensures no_sink { is_sink_fault result ≡ false }
+{
+    need_there(store, cid, touches)?;
+    walk.take(&[])?;
+    Ok(())
+}
+
+// Hands the node that is due to a walk.
+fn take_node<S: Store, L: Ledger>(
+    walk: &mut Walk,
+    store: &mut S,
+    cid: &Cid,
+    touches: &mut Steps<L>,
+) -> Result<(), ExportFault>
+    requires { walk.old.due ≡ Some cid.now }
+    ensures order { (t : Contents) → (S.seen store.old).told ≡ Some t
+        → FollowsOrder (held_at t) result walk.old walk.new }
+    ensures taken { OnOk result (HasTaken walk.old walk.new) }
+    ensures reads { OnlyReads S.X.block32 NoneIsBad (export_fault result) (S.seen store.old) (S.seen store.new) }
+    ensures no_sink { is_sink_fault result ≡ false }
+{
     need(store, cid, touches)?;
     walk.take(store.block())?;
     Ok(())

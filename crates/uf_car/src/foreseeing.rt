@@ -1,5 +1,5 @@
 //! Raw blocks that a store is told of before they are loaded: the leaves of a file lie side by side in a walk.
-ghost use Rattle.std.specs.Prelude.{◌≡◌, ◌≤◌, length};
+ghost use Rattle.std.specs.Prelude.{◌≡◌, ◌≤◌};
 
 use uf_cid::{Cid, Codec};
 use uf_store::Store;
@@ -7,35 +7,6 @@ use uf_walk::Walk;
 
 // How many blocks a store is told of at most.
 const MOST_AHEAD: usize = 8;
-
-/// Tells a store of a raw block that is loaded next, and of those that come right after it, the next one last.
-pub(crate) fn foresee_next<S: Store>(store: &mut S, next: &Cid, rest: &[Cid])
-    ensures { S.seen store.new ≡ S.seen store.old }
-{
-    if next.codec != Codec::Raw {
-        return;
-    }
-    let mut cids = [*next; MOST_AHEAD];
-    let count = 1 + copy_last(rest, &mut cids[1..]);
-    if count > 1 {
-        store.foresee(&cids[..count]);
-    }
-}
-
-// Copies the CIDs of raw blocks with which some CIDs end, the last one first: how many.
-fn copy_last(rest: &[Cid], cids: &mut [Cid]) -> usize
-    ensures { result ≤ length cids.old }
-{
-    let most = rest.len().min(cids.len());
-    for count in 0..most {
-        let cid = rest[rest.len() - 1 - count];
-        if cid.codec != Codec::Raw {
-            return count;
-        }
-        cids[count] = cid;
-    }
-    most
-}
 
 /// Tells a store of the raw blocks that a walk has handed out from a place on.
 pub(crate) fn foresee_met<S: Store>(store: &mut S, walk: &Walk, place: u32)

@@ -16,14 +16,15 @@ use std::alloc::Global;
 use std::sync::ledger::Ledger;
 use uf_cid::Cid;
 use uf_edge::{Host, Kind};
-use uf_lenient::{Limits, survey};
+use uf_lenient::{Limits, survey_nodes};
 use uf_store::{Steps, Store, StoreFault};
 
 /// Writes the file or the directory that a CID denotes to a path of a host, where nothing is there and the path's
 /// folder is. That of the empty path is the working folder, and the writing then fails. Slashes at the end of the path
-/// are taken off. All of it is read first, so that nothing is written of what denotes no tree. Then each folder is
-/// made before its members, which are written in byte order of their names, a file piece by piece. After a failed
-/// write all that was written stays. Depth and visits are counted anew for each file and directory.
+/// are taken off. All nodes are read first, and of each leaf it is asked whether it is there, so that nothing is
+/// written of what denotes no tree. Then each folder is made before its members, which are written in byte order of
+/// their names, a file piece by piece. After a failed write, or a leaf that is damaged, all that was written stays.
+/// Depth and visits are counted anew for each file and directory.
 pub fn get<S: Store, W: Host, L: Ledger>(
     alloc: Global,
     store: &mut S,
@@ -46,7 +47,7 @@ pub fn get<S: Store, W: Host, L: Ledger>(
     ensures cause { Shown S.X.block32 NoneIsBad (edge_fault result) (S.seen store.old) (S.seen store.new) }
     ensures told { (S.seen store.new).told ≡ (S.seen store.old).told }
 {
-    survey(alloc, store, cid, limits, touches)?;
+    survey_nodes(alloc, store, cid, limits, touches)?;
     let path = trim(path);
     find_room(host, path)?;
     let export = Export {

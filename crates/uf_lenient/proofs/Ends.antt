@@ -88,6 +88,13 @@ part_differs is = subst Is_other is tt
 file_differs : File ≢ Whole
 file_differs is = subst Is_other is tt
 
+-- the beginning of a file, and a part of one, are no whole block
+pub file-part : (v : Visited) → v ≡ File → v ≢ Whole
+file-part v is whole = file_differs (sym is ∙ whole)
+
+pub part-part : (v : Visited) → v ≡ Part → v ≢ Whole
+part-part v is whole = part_differs (sym is ∙ whole)
+
 module _ (held : Lookup) where
   pub all_end-append : (xs ys : List Due) (n : ℕ) → all_end held (xs ++ ys) n ≡ (all_end held xs n >>= λ m. all_end held ys m)
   all_end-append [] ys n = refl
@@ -259,10 +266,18 @@ module _ (held : Lookup) where
 
   -- ---- what calls answer
 
-  pub raw-says : (d : Due) (ds : List Due) (n : ℕ) (bytes : List ℕ) (m : ℕ) (r : Result (Unit {0}) DagFault) → d.cid.codec ≡ codec.Raw → OnOk r (1 ≤ d.left) → FollowsReading (λ _. (bytes, m)) (loads held d.left d.cid n) r
+  -- a leaf that is lent is met
+  pub lent-met : (left : ℕ) (c : Cid) (n : ℕ) (bytes : List ℕ) (m : ℕ) (r : Result (Unit {0}) DagFault) → FollowsReading (λ _. (bytes, m)) (loads held left c n) r
+      → FollowsReading (λ _. m) (how_ends (loads held left c n)) r
+  lent-met left c n bytes m (Ok u) says = ap how_ends says
+  lent-met left c n bytes m (Err fault) (inl own) = inl own
+  lent-met left c n bytes m (Err fault) (inr is) = inr (ap how_ends is)
+
+  pub raw-says : (d : Due) (ds : List Due) (n m : ℕ) (r : Result (Unit {0}) DagFault) → d.cid.codec ≡ codec.Raw → OnOk r (1 ≤ d.left) → FollowsReading (λ _. m) (how_ends (loads held d.left d.cid n)) r
       → StepsTo (all_end held (d ∷ ds) n) (all_end held ds m) r
-  raw-says d ds n bytes m (Ok u) raw some says = raw-steps d ds n bytes m raw some says
-  raw-says d ds n bytes m (Err fault) raw some says = load-fault d ds n fault says
+  raw-says d ds n m (Ok u) raw some says = let read = ends_ok (loads held d.left d.cid n) m says in raw-steps d ds n read.0 m raw some read.1
+  raw-says d ds n m (Err fault) raw some (inl own) = inl own
+  raw-says d ds n m (Err fault) raw some (inr is) = load-fault d ds n fault (inr (ends_err (loads held d.left d.cid n) fault is))
 
   pub surveyed : (limits : Limits) (c : Cid) (g : Gathered) (m k left : ℕ) (r : Result Shape DagFault) → left ≡ limits.depth + 1 → gathered held left c limits.visits ≡ Ok (g, m) → FollowsReading (λ _. k) (all_end held (gathered_due (left - 1) g) m) r
       → IfOk r (λ s. s ≡ shape_of g) → Surveys held limits c r

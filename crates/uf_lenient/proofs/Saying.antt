@@ -15,7 +15,9 @@ use Rattle.uf_store.proofs.Causes.{StaysCalm-refl, calm-memory}
 use Rattle.uf_lenient.specs.declared.fault.DagFault.{DagFault}
 use Rattle.uf_lenient.specs.declared.fault.DagFault.TheVariants.{Store}
 use Rattle.uf_lenient.specs.Answers.{IsBare, IsFault, dag_fault, store_fault_of}
-use Rattle.uf_lenient.specs.Good.{ByGoodBlocks}
+use Rattle.uf_lenient.specs.Good.{ByGoodBlocks, ByLeaves, HasGoodOf, HasLeaves}
+use Rattle.uf_lenient.specs.declared.due.LeafVisit.{LeafVisit}
+use Rattle.uf_lenient.specs.declared.due.LeafVisit.TheVariants.{Loaded, Asked}
 use Rattle.uf_lenient.specs.Reading.{◌>>◌, Visits, unvisited}
 
 -- a fault of a first reading is one of both
@@ -71,6 +73,39 @@ pub held-so : (P : Lookup → Type 0) (hash : List ℕ → List ℕ) (told : Tol
     → IfSome told (λ t. P (held_at t))
 held-so P hash None p = tt
 held-so P hash (Some t) p = p (held_at t) (record { holds = λ c block is same. is; misses = λ c none. none })
+
+-- the same where leaves may only be asked for
+good_of : (leaf : LeafVisit) (hash : List ℕ → List ℕ) (held good : Lookup) → HasLeaves leaf hash held good
+    → HasGoodOf hash held good
+good_of Loaded hash held good has = has
+good_of Asked hash held good has = has.0
+
+has_itself : (leaf : LeafVisit) (hash : List ℕ → List ℕ) (held : Lookup) → HasLeaves leaf hash held held
+has_itself Loaded hash held = record { holds = λ c block is same. is; misses = λ c none. none }
+has_itself Asked hash held = (record { holds = λ c block is same. is; misses = λ c none. none }, λ c some. some)
+
+pub by-leaves : {P Q : Lookup → Type 0} (leaf : LeafVisit) (hash : List ℕ → List ℕ) (told : Told)
+    → ((held : Lookup) → P held → Q held) → ByLeaves leaf hash told P → ByLeaves leaf hash told Q
+by-leaves leaf hash None f p = tt
+by-leaves leaf hash (Some t) f p = λ good has. f good (p good has)
+
+pub leaves-of-good : (P : Lookup → Type 0) (leaf : LeafVisit) (hash : List ℕ → List ℕ) (told : Told)
+    → ByGoodBlocks hash told P → ByLeaves leaf hash told P
+leaves-of-good P leaf hash None p = tt
+leaves-of-good P leaf hash (Some t) p = λ good has. p good (good_of leaf hash (held_at t) good has)
+
+pub leaves-both : {P Q R : Lookup → Type 0} (leaf : LeafVisit) (hash : List ℕ → List ℕ) (told later : Told)
+    → later ≡ told → ((held : Lookup) → P held → Q held → R held)
+    → ByLeaves leaf hash told P → ByLeaves leaf hash later Q → ByLeaves leaf hash told R
+leaves-both leaf hash None later same f p q = tt
+leaves-both {P} {Q} {R} leaf hash (Some t) later same f p q =
+    let now = subst (λ m. ByLeaves leaf hash m Q) same q in λ good has. f good (p good has) (now good has)
+
+-- what the store tells is such a map
+pub leaves-held : (P : Lookup → Type 0) (leaf : LeafVisit) (hash : List ℕ → List ℕ) (told : Told)
+    → ByLeaves leaf hash told P → IfSome told (λ t. P (held_at t))
+leaves-held P leaf hash None p = tt
+leaves-held P leaf hash (Some t) p = p (held_at t) (has_itself leaf hash (held_at t))
 
 -- a fault that isn't the store's shows nothing but that the store has stayed calm, and want of memory no more
 memory_shown : (hash : List ℕ → List ℕ) (fault : StoreFault) (a b : Seen) → fault ≡ Memory → StaysCalm a b → Shows hash NoneIsBad fault a b

@@ -9,10 +9,11 @@ use Rattle.uf_store.specs.Faults.{NoneIsBad, Shown}
 use Rattle.uf_store.specs.Seen.{Seen}
 use Rattle.uf_lenient.specs.declared.due.Due.{Due}
 use Rattle.uf_lenient.specs.declared.due.Frame.{Frame}
+use Rattle.uf_lenient.specs.declared.due.LeafVisit.{LeafVisit}
 use Rattle.uf_lenient.specs.declared.fault.DagFault.{DagFault}
 use Rattle.uf_lenient.specs.Answers.{FollowsReading, dag_fault}
-use Rattle.uf_lenient.specs.Good.{ByGoodBlocks}
-use Rattle.uf_lenient.specs.Pending.{all_end, frames_ways}
+use Rattle.uf_lenient.specs.Good.{ByGoodBlocks, ByLeaves}
+use Rattle.uf_lenient.specs.Pending.{all_end, frames_ways, how_ends}
 use Rattle.uf_lenient.specs.Reading.{Visits, Ways, loads}
 use Rattle.uf_lenient.specs.Steps.{StepsTo}
 
@@ -43,14 +44,21 @@ abbrev pub LendsVisited : (List ℕ → List ℕ) → ℕ → Cid → Seen → S
 LendsVisited hash left cid before now visits visits_now answer = ByGoodBlocks hash before.told (λ held.
     FollowsReading (λ _. (now.lent, visits_now)) (loads held left cid visits) answer)
 
--- all that is due was read, and n visits are left
-abbrev pub ReadsAllDue : {A : Type 0} → (List ℕ → List ℕ) → Seen → List Due → ℕ → ℕ → Result A DagFault → Type 0
-ReadsAllDue hash seen due visits visits_now answer = ByGoodBlocks hash seen.told (λ held.
+-- a leaf was visited under a CID, where n levels are left, and its bytes may not have been loaded
+abbrev pub MeetsLeaf : LeafVisit → (List ℕ → List ℕ) → ℕ → Cid → Seen → ℕ → ℕ → Result Unit DagFault → Type 0
+MeetsLeaf leaf hash left cid seen visits visits_now answer = ByLeaves leaf hash seen.told (λ held.
+    FollowsReading (λ _. visits_now) (how_ends (loads held left cid visits)) answer)
+
+-- all that is due was read, its leaves in this way, and n visits are left
+abbrev pub ReadsAllDue : {A : Type 0} → LeafVisit → (List ℕ → List ℕ) → Seen → List Due → ℕ → ℕ → Result A DagFault
+    → Type 0
+ReadsAllDue leaf hash seen due visits visits_now answer = ByLeaves leaf hash seen.told (λ held.
     FollowsReading (λ _. visits_now) (all_end held due visits) answer)
 
 -- one of what is due was visited: the reading of what is due now ends as that of what was due before
-abbrev pub ReadsOneDue : (List ℕ → List ℕ) → Seen → List Due → List Due → ℕ → ℕ → Result Unit DagFault → Type 0
-ReadsOneDue hash seen due due_now visits visits_now answer = ByGoodBlocks hash seen.told (λ held.
+abbrev pub ReadsOneDue : LeafVisit → (List ℕ → List ℕ) → Seen → List Due → List Due → ℕ → ℕ → Result Unit DagFault
+    → Type 0
+ReadsOneDue leaf hash seen due due_now visits visits_now answer = ByLeaves leaf hash seen.told (λ held.
     StepsTo (all_end held due visits) (all_end held due_now visits_now) answer)
 
 -- the ways of the shards in a pile were added, and n visits are left

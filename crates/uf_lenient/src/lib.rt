@@ -39,4 +39,4 @@ pub use rows::{
 };
 pub use shapes::{Limits, Shape, Way, Ways};
 pub use streaming::stream;
-pub use surveying::survey;
+pub use surveying::{survey, survey_nodes};

@@ -14,8 +14,8 @@ use Rattle.uf_light.specs.Sections.{IsOkOrMemory, ShownBySections}
 use Rattle.uf_light.specs.declared.asked.Asked.{Asked}
 use Rattle.uf_light.specs.declared.fault.LightFault.{LightFault}
 
--- the answer to a source of which this is left, whose bytes are read as a CAR of at most `limit` bytes, and what the sink
--- has now; the source and the sink have failed so often
+-- the answer to a source of which this is left, whose bytes are read as a CAR of at most `limit` bytes, and what the
+-- sink has now; the source and the sink have failed so often
 pub record Checks (X : List ℕ → List ℕ) (N : List ℕ → ℕ) (asked : Asked) (limit : ℕ) (left : SourceTold)
     (answer : Result ℕ LightFault) (reads reads_now : ℕ) (out out_now : SinkTold) (writes writes_now : ℕ) : Type 0 where
   -- what the CAR says before its tree is looked at: two sections that clash, a fault of its form, another root

@@ -119,12 +119,19 @@ fn many_pins(alloc: Global, count: u64) -> Result<Block, Memory> {
     Ok(note)
 }
 
+// Has the store hold other bytes under a CID.
+fn spoil<X: BlockHash>(world: &mut World<X>, cid: &Cid) -> Result<(), Memory> {
+    let bytes = block_of(world.alloc, b"other")?;
+    world.store.plant(cid, bytes)
+}
+
 // A change of what the store holds; whether the word asks for one that can be done.
 fn set_block<X: BlockHash>(world: &mut World<X>, word: Word, node: &[u8]) -> Result<bool, Memory> {
     match word {
         Word::Forget => world.store.forget(&Cid::of::<X>(Codec::DagPb, node)),
         Word::ForgetLeaf => world.store.forget(&Cid::of::<X>(Codec::Raw, node)),
-        Word::Spoil => plant_node(world.alloc, &mut world.store, node, b"other")?,
+        Word::Spoil => spoil(world, &Cid::of::<X>(Codec::DagPb, node))?,
+        Word::SpoilLeaf => spoil(world, &Cid::of::<X>(Codec::Raw, node))?,
         Word::Keep => plant_node(world.alloc, &mut world.store, node, node)?,
         Word::Head => return Ok(world.store.write_note(Note::Head, node) == Put::Done),
         Word::Pins => return Ok(world.store.write_note(Note::Pins, node) == Put::Done),

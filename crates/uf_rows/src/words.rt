@@ -25,6 +25,7 @@ pub enum Word {
     Forget,
     ForgetLeaf,
     Spoil,
+    SpoilLeaf,
     Keep,
     Nest,
     Other,
@@ -49,7 +50,7 @@ pub enum Word {
     Batch,
 }
 
-const WORDS: [(&str, Word); 38] = [
+const WORDS: [(&str, Word); 39] = [
     ("room", Word::Room),
     ("input-fails", Word::InputFails),
     ("output-fails", Word::OutputFails),
@@ -68,6 +69,7 @@ const WORDS: [(&str, Word); 38] = [
     ("forget", Word::Forget),
     ("forget-leaf", Word::ForgetLeaf),
     ("spoil", Word::Spoil),
+    ("spoil-leaf", Word::SpoilLeaf),
     ("keep", Word::Keep),
     ("nest", Word::Nest),
     ("other", Word::Other),

@@ -45,7 +45,7 @@ use Rattle.uf_top.specs.Answering.{DoesAnswer}
 use Rattle.uf_top.specs.Around.{HostSide, RisesFor, SinkSide, around}
 use Rattle.uf_top.specs.Causes.{IsBadIn, IsReadyBy, is_read}
 use Rattle.uf_top.specs.Endings.{EndsBy, PrintsPart}
-use Rattle.uf_top.specs.Foreign.{FindsFile, FindsShape, IsFileIn, IsOfReading, IsOwnRefusal, IsShapeIn}
+use Rattle.uf_top.specs.Foreign.{FindsFile, FindsWay, IsFileIn, IsOfReading, IsOwnRefusal, LeadsTo}
 use Rattle.uf_top.specs.Losing.{DoesOver}
 use Rattle.uf_top.specs.Naming.{StaysNamed, TellsBlocks}
 use Rattle.uf_top.specs.Working.{Does}
@@ -436,43 +436,41 @@ module _ (path : DagPath) (told : Told) (cid : Cid) (h h2 : streams.Told) (found
 
 -- ---- over what a store tells
 
--- what is found by the good blocks of a store is found by its blocks
-module _ (X : List ℕ → List ℕ) (told : Told) (path : DagPath) where
-  by_told : (A : Lookup → Type 0) → ByGoodBlocks X told A → IfSome told (λ t. A (held_at t))
-  by_told A h = by told h
+-- what is found by the good blocks of a store, and then by its blocks, is found by its blocks
+module _ (X : List ℕ → List ℕ) (told later : Told) (same : later ≡ told) (path : DagPath) where
+  both_told : (A B C : Lookup → Type 0) → ((held : Lookup) → A held → B held → C held) → ByGoodBlocks X told A → IfSome later (λ t. B (held_at t)) → IfSome told (λ t. C (held_at t))
+  both_told A B C f first then = by told first (subst (λ o. IfSome o (λ t. B (held_at t))) same then)
     where
-      by : (told : Told) → ByGoodBlocks X told A → IfSome told (λ t. A (held_at t))
-      by None h = tt
-      by (Some t) h = h (held_at t) (record { holds = λ c block is same. is; misses = λ c none. none })
+      by : (told : Told) → ByGoodBlocks X told A → IfSome told (λ t. B (held_at t)) → IfSome told (λ t. C (held_at t))
+      by None a b = tt
+      by (Some t) a b = f (held_at t) (a (held_at t) (record { holds = λ c block is same. is; misses = λ c none. none })) b
 
-  if_told : (A B : Lookup → Type 0) → ((held : Lookup) → A held → B held) → IfSome told (λ t. A (held_at t)) → IfSome told (λ t. B (held_at t))
-  if_told A B f h = by told h
-    where
-      by : (told : Told) → IfSome told (λ t. A (held_at t)) → IfSome told (λ t. B (held_at t))
-      by None h = tt
-      by (Some t) h = f (held_at t) h
+  module _ (cid : Cid) (leads : ByGoodBlocks X told (λ held. FindsWay held path (Ok cid))) where
+    pub below-file : (f : DagFault) (why : Refusal) → IfSome later (λ t. IsFault (denotes (held_at t) usual_limits cid) f) → IsToldAs (dag_refusal path f) why → IfSome told (λ t. FindsFile (held_at t) path (Err why))
+    below-file f why said is =
+        both_told (λ held. LeadsTo held path cid) (λ held. IsFault (denotes held usual_limits cid) f) (λ held. FindsFile held path (Err why)) (λ held led fault. fault-found held path f why (below-fault held path cid led f fault) is) leads said
 
-  pub file-told : (cid : Cid) (shape : Shape) (meta : Meta) → shape ≡ FileShape meta → ByGoodBlocks X told (λ held. FindsShape held path (Ok (cid, shape))) → IfSome told (λ t. FindsFile (held_at t) path (Ok cid))
-  file-told cid shape meta is found =
-      if_told (λ held. IsShapeIn held path cid shape) (λ held. IsFileIn held path cid) (λ held h. file-found held path cid h.leads meta (subst (λ s. IsRead held usual_limits cid s) is h.read))
-      (by_told (λ held. IsShapeIn held path cid shape) found)
+    pub file-told : (meta : Meta) → IfSome later (λ t. IsRead (held_at t) usual_limits cid (FileShape meta)) → IfSome told (λ t. FindsFile (held_at t) path (Ok cid))
+    file-told meta read =
+        both_told (λ held. LeadsTo held path cid) (λ held. IsRead held usual_limits cid (FileShape meta)) (λ held. FindsFile held path (Ok cid)) (λ held led is. file-found held path cid led meta is) leads read
 
-  pub folder-told : (cid : Cid) (shape : Shape) (meta : Meta) (ways : List (List ℕ × Cid)) (why : Refusal) → shape ≡ FolderShape meta ways → ByGoodBlocks X told (λ held. FindsShape held path (Ok (cid, shape)))
-      → IsToldAs (refusal.Dag (rule.IsADirectory path)) why → IfSome told (λ t. FindsFile (held_at t) path (Err why))
-  folder-told cid shape meta ways why same found is =
-      if_told (λ held. IsShapeIn held path cid shape) (λ held. FindsFile held path (Err why)) (λ held h. folder-found held path cid h.leads meta ways why (subst (λ s. IsRead held usual_limits cid s) same h.read) is)
-      (by_told (λ held. IsShapeIn held path cid shape) found)
+    pub folder-told : (meta : Meta) (ways : List (List ℕ × Cid)) (why : Refusal) → IfSome later (λ t. IsRead (held_at t) usual_limits cid (FolderShape meta ways)) → IsToldAs (refusal.Dag (rule.IsADirectory path)) why
+        → IfSome told (λ t. FindsFile (held_at t) path (Err why))
+    folder-told meta ways why read is =
+        both_told (λ held. LeadsTo held path cid) (λ held. IsRead held usual_limits cid (FolderShape meta ways)) (λ held. FindsFile held path (Err why)) (λ held led read. folder-found held path cid led meta ways why read is) leads read
 
-  pub unfound-told : (why : Refusal) → ByGoodBlocks X told (λ held. FindsShape held path (Err why)) → IfSome told (λ t. FindsFile (held_at t) path (Err why))
-  unfound-told why found = if_told (λ held. FindsShape held path (Err why)) (λ held. FindsFile held path (Err why)) no-file (by_told (λ held. FindsShape held path (Err why)) found)
-    where
-      said : (r : Result Tree DagFault) → by_dag path r ≡ Err why → file_at path r ≡ Err why
-      said (Ok t) is = absurd cc
-      said (Err f) is = (let e : dag_refusal path f ≡ why = cc in ap (λ (r : Refusal). Err r) e)
+-- a path that leads to no tree leads to no file
+pub no-way : (X : List ℕ → List ℕ) (told : Told) (path : DagPath) (why : Refusal) → ByGoodBlocks X told (λ held. FindsWay held path (Err why)) → IfSome told (λ t. FindsFile (held_at t) path (Err why))
+no-way X None path why found = tt
+no-way X (Some t) path why found = by (found (held_at t) (record { holds = λ c block is same. is; misses = λ c none. none }))
+  where
+    said : (r : Result Tree DagFault) → by_dag path r ≡ Err why → file_at path r ≡ Err why
+    said (Ok t) is = absurd cc
+    said (Err f) is = (let e : dag_refusal path f ≡ why = cc in ap (λ (r : Refusal). Err r) e)
 
-      no-file : (held : Lookup) → FindsShape held path (Err why) → FindsFile held path (Err why)
-      no-file held (inl own) = inl own
-      no-file held (inr is) = inr (said (tree_at held path) is)
+    by : FindsWay (held_at t) path (Err why) → FindsFile (held_at t) path (Err why)
+    by (inl own) = inl own
+    by (inr is) = inr (said (tree_at (held_at t) path) is)
 
 -- what is found so is said so, and nothing is printed
 pub refusal-told : (told : Told) (path : DagPath) (why : Refusal) (h : streams.Told) → IfSome told (λ t. FindsFile (held_at t) path (Err why)) → IfSome told (λ t. IsOwnRefusal why ⊎ ((file_at path (tree_at (held_at t) path) ≡ Err why) × (h ≡ h)))

@@ -52,10 +52,11 @@ use Rattle.uf_command.specs.Kinds.{fault_behind, fault_kind, refusal_fault, refu
 use Rattle.uf_top.specs.Reply.{adopted, by_rule, grafted, with_plan}
 use Rattle.uf_command.specs.declared.types.Refusal.{Refusal}
 use Rattle.uf_command.specs.declared.types.Refusal.TheVariants as refusal
-use Rattle.uf_top.specs.Foreign.{FindsShape, FindsTree, IsOfReading, IsOwnRefusal, IsTreeIn, LeadsTo}
+use Rattle.uf_top.specs.Foreign.{FindsTree, FindsWay, IsOfReading, IsOwnRefusal, IsTreeIn, LeadsTo}
 use Rattle.uf_top.specs.Grafts.{BuildsPlanned, FollowsOr, IsFailingRefusal, IsLostBy, IsOkFor, PutsTree, TouchesUp, adopt_refusal, graft_kinds, put_tree}
 use Rattle.uf_top.specs.Naming.{TellsBlocks}
 use Rattle.uf_top.specs.Saving.{SavesNoOther, adopted_blocks, put_blocks}
+use Rattle.uf_lenient.proofs.Saying.{good-both}
 use Rattle.uf_top.proofs.Cats.{below-fault, way-fault}
 use Rattle.uf_top.specs.Losing.{placing_needs}
 use Rattle.uf_top.proofs.Putting.{failing-lost, follows-more, follows-then, lost-behind, needs_at_spot, ok-for, ok-value, rule-ok, stops-then}
@@ -202,33 +203,28 @@ fault-tree held path f why (inl own) (inr is) = inl (subst IsOwnRefusal (sym is)
 
 pub way-told : (X : List ℕ → List ℕ) (told : Told) (path : DagPath) (f : DagFault) (why : Refusal)
     → ByGoodBlocks X told (λ held. IsFault (resolve_from held usual_limits 0 path.names path.cid) f)
-    → IsToldAs (dag_refusal path f) why → ByGoodBlocks X told (λ held. FindsTree held path (Err why))
+    → IsToldAs (dag_refusal path f) why → ByGoodBlocks X told (λ held. FindsWay held path (Err why))
 way-told X None path f why said is = tt
 way-told X (Some t) path f why said is = λ good has. fault-tree good path f why (way-fault good path f (said good has)) is
 
-pub below-told : (X : List ℕ → List ℕ) (told : Told) (path : DagPath) (cid : Cid) (f : DagFault) (why : Refusal)
-    → ByGoodBlocks X told (λ held. IsFault (denotes held usual_limits cid) f) → IsToldAs (dag_refusal path f) why
-    → ByGoodBlocks X told (λ held. LeadsTo held path cid → FindsTree held path (Err why))
-below-told X None path cid f why said is = tt
-below-told X (Some t) path cid f why said is =
-    λ good has leads. fault-tree good path f why (below-fault good path cid leads f (said good has)) is
+-- what is found under the CID to which a path leads
+module _ (X : List ℕ → List ℕ) (told later : Told) (same : later ≡ told) (path : DagPath) (cid : Cid)
+    (leads : ByGoodBlocks X told (λ held. FindsWay held path (Ok cid))) where
+  pub below-told : (f : DagFault) (why : Refusal) → ByGoodBlocks X later (λ held. IsFault (denotes held usual_limits cid) f)
+      → IsToldAs (dag_refusal path f) why → ByGoodBlocks X told (λ held. FindsTree held path (Err why))
+  below-told f why said is =
+      good-both X told later same (λ good led fault. fault-tree good path f why (below-fault good path cid led f fault) is) leads said
 
-pub shape-told : (X : List ℕ → List ℕ) (told : Told) (path : DagPath) (cid : Cid) (shape : Shape)
-    → ByGoodBlocks X told (λ held. IsRead held usual_limits cid shape)
-    → ByGoodBlocks X told (λ held. LeadsTo held path cid → FindsShape held path (Ok (cid, shape)))
-shape-told X None path cid shape read = tt
-shape-told X (Some t) path cid shape read = λ good has leads. record { leads = leads; read = read good has }
-
-pub tree-told : (X : List ℕ → List ℕ) (told : Told) (path : DagPath) (cid : Cid) (shape : Shape)
-    → ByGoodBlocks X told (λ held. FindsShape held path (Ok (cid, shape))) → ByGoodBlocks X told (λ held. FindsTree held path (Ok cid))
-tree-told X None path cid shape found = tt
-tree-told X (Some t) path cid shape found = λ good has.
-    let f = found good has in
-    record {
-      tree = f.read.tree;
-      leads = ap (λ (r : Result Cid DagFault). r >>= λ c. denotes good usual_limits c) f.leads ∙ f.read.denoted;
-      denoted = f.read.denoted;
-    }
+  pub tree-told : (shape : Shape) → ByGoodBlocks X later (λ held. IsRead held usual_limits cid shape)
+      → ByGoodBlocks X told (λ held. FindsTree held path (Ok cid))
+  tree-told shape read = good-both X told later same tree leads read
+    where
+      tree : (good : Lookup) → LeadsTo good path cid → IsRead good usual_limits cid shape → FindsTree good path (Ok cid)
+      tree good led is = record {
+        tree = is.tree;
+        leads = ap (λ (r : Result Cid DagFault). r >>= λ c. denotes good usual_limits c) led ∙ is.denoted;
+        denoted = is.denoted;
+      }
 
 -- what is found of the blocks that the store tells, and of the good ones among them
 found-in : (A : Lookup → Type 0) (X : List ℕ → List ℕ) (told : Told) (held good : Lookup) → TellsBlocks told held

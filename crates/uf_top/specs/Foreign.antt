@@ -6,8 +6,6 @@ use Rattle.uf_cid.specs.Blocks.{Lookup}
 use Rattle.uf_cid.specs.declared.cid.Cid.{Cid}
 use Rattle.uf_lenient.specs.Answers.{IsStoreOwn}
 use Rattle.uf_lenient.specs.Reading.{denotes, file_of, resolve_from}
-use Rattle.uf_lenient.specs.Steps.{IsRead}
-use Rattle.uf_lenient.specs.declared.shapes.Shape.{Shape}
 use Rattle.uf_path.specs.declared.path.DagPath.{DagPath}
 use Rattle.uf_command.specs.Dags.{by_dag, file_at, tree_at, usual_limits}
 use Rattle.uf_command.specs.declared.types.Refusal.{Refusal}
@@ -30,15 +28,10 @@ IsOfReading (refusal.Dag rule) = ⊤
 IsOfReading (refusal.Store fault) = ⊤
 IsOfReading why = ⊥
 
--- a path leads to this CID, which denotes a tree of this shape
-pub record IsShapeIn (held : Lookup) (path : DagPath) (cid : Cid) (shape : Shape) : Type 0 where
-  pub leads : LeadsTo held path cid
-  pub read : IsRead held usual_limits cid shape
-
--- a path leads to a CID, and what that denotes has a shape, or why it leads to no tree
-abbrev pub FindsShape : Lookup → DagPath → Result (Cid × Shape) Refusal → Type 0
-FindsShape held path (Ok found) = IsShapeIn held path found.0 found.1
-FindsShape held path (Err why) = IsOwnRefusal why ⊎ (by_dag path (tree_at held path) ≡ Err why)
+-- a path leads to this CID, or why it leads to no tree
+abbrev pub FindsWay : Lookup → DagPath → Result Cid Refusal → Type 0
+FindsWay held path (Ok cid) = LeadsTo held path cid
+FindsWay held path (Err why) = IsOwnRefusal why ⊎ (by_dag path (tree_at held path) ≡ Err why)
 
 -- a path leads to a file of some metadata and these bytes
 pub record IsFileIn (held : Lookup) (path : DagPath) (cid : Cid) : Type 0 where

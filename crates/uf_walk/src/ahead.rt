@@ -31,9 +31,6 @@ impl Model for Frontier {
 }
 
 impl Frontier {
-    ghost use Rattle.std.specs.Prelude.{length, take};
-    ghost use Rattle.std.proofs.Common.{reverse};
-
     /// Nothing is ahead.
     pub fn new(alloc: Global) -> Self
         ensures { result ≡ [] }
@@ -81,13 +78,6 @@ impl Frontier {
             Some(cid) => Some(*cid),
             None => front_of(&self.roots),
         }
-    }
-
-    /// Some of the first CIDs, the first one last.
-    pub fn some_first(&self) -> &[Cid]
-        ensures { take (length result.now) self.now ≡ reverse result.now }
-    {
-        self.top.as_slice()
     }
 
     /// Takes the first n CIDs away.

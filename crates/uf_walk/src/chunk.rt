@@ -26,8 +26,6 @@ impl Model for Chunk {
 }
 
 impl Chunk {
-    ghost use Rattle.std.proofs.Common.{reverse};
-
     /// No CIDs, and no room for them yet.
     pub fn new(alloc: Global) -> Self
         ensures { result ≡ [] }
@@ -74,13 +72,6 @@ impl Chunk {
         ensures { MatchOption result ((self.old ≡ []) × (self.new ≡ [])) (λ cid. self.old ≡ cid ∷ self.new) }
     {
         self.items.pop()
-    }
-
-    /// All of them, the first one last.
-    pub fn as_slice(&self) -> &[Cid]
-        ensures { reverse result.now ≡ self.now }
-    {
-        self.items.as_slice()
     }
 
     /// The first one.

@@ -1,7 +1,6 @@
 //! Walks.
-ghost use Rattle.std.specs.Prelude.{◌≡◌, ◌<◌, ◌≤◌, ◌++◌, ◌∷◌, [], None, Some, length, map, slice_get};
+ghost use Rattle.std.specs.Prelude.{◌≡◌, ◌<◌, ◌≤◌, ◌++◌, ◌∷◌, [], None, Some, map, slice_get};
 ghost use Rattle.std.specs.Prelude.{OnOk, OnErr, IsSome};
-ghost use Rattle.std.specs.Option.{option_map};
 ghost use Rattle.uf_walk.specs.Order.{Follow, Whole};
 
 use crate::ahead::Frontier;
@@ -39,8 +38,6 @@ impl Model for Walk {
 impl Walk {
     ghost use Rattle.uf_walk.specs.Turns.{AddsRoot, AdvancesWalk, TakesBlock};
     ghost use Rattle.uf_walk.specs.Walked.{course};
-    ghost use Rattle.std.specs.Prelude.{take};
-    ghost use Rattle.std.proofs.Common.{reverse};
 
     /// A walk that may hand out n CIDs, with no root.
     pub fn new(alloc: Global, most: u32) -> Walk
@@ -100,13 +97,6 @@ impl Walk {
         links_ahead(self.alloc, &cid, bytes, &mut self.ahead)?;
         self.due = None;
         Ok(())
-    }
-
-    /// Some of the CIDs that are ahead, the one that comes next last. Those that were handed out may be among them.
-    pub fn next_ones(&self) -> &[Cid]
-        ensures { take (length result.now) self.now.ahead ≡ reverse result.now }
-    {
-        self.ahead.some_first()
     }
 
     /// The CID of this place among those that were handed out, counted from 0.

@@ -6,7 +6,7 @@ ghost use Rattle.uf_command.specs.declared.types.Command.TheVariants as commands
 ghost use Rattle.uf_store.specs.Calls.{OnlyReads};
 ghost use Rattle.uf_store.specs.Contents.{held_at};
 ghost use Rattle.uf_store.specs.Faults.{NoneIsBad};
-ghost use Rattle.uf_top.specs.Foreign.{FindsFile, FindsShape, FindsTree, IsOfReading, LeadsTo};
+ghost use Rattle.uf_top.specs.Foreign.{FindsFile, FindsTree, FindsWay, IsOfReading};
 ghost use Rattle.uf_top.specs.Lent.{OverOutput};
 ghost use Rattle.uf_top.specs.Working.{Does};
 
@@ -15,7 +15,7 @@ use std::sync::ledger::Ledger;
 use uf_cid::Cid;
 use uf_command::{Refusal, dag_refusal, no_file};
 use uf_edge::Sink;
-use uf_lenient::{Limits, Shape, StreamFault, resolve, stream, survey};
+use uf_lenient::{Limits, Shape, StreamFault, resolve, stream, survey, survey_nodes};
 use uf_path::DagPath;
 use uf_store::{Steps, Store};
 
@@ -25,7 +25,8 @@ pub const USUAL: Limits = Limits {
     visits: 1048576,
 };
 
-// Writes the bytes of the file to which a path leads, once everything below it was read.
+// Writes the bytes of the file to which a path leads, once its nodes were read and its leaves asked for. Each leaf is
+// loaded once, as it is written.
 pub fn cat<S: Store, O: Sink, L: Ledger>(
     alloc: Global,
     path: &DagPath,
@@ -45,7 +46,7 @@ pub fn cat<S: Store, O: Sink, L: Ledger>(
     }
 }
 
-// The CID of the file to which a path leads.
+// The CID of the file to which a path leads. Its nodes are read, and its leaves are asked for.
 fn file_in<S: Store, L: Ledger>(
     alloc: Global,
     path: &DagPath,
@@ -57,14 +58,15 @@ fn file_in<S: Store, L: Ledger>(
     ensures refuses { IfErr result IsOfReading }
     ensures reads { OnlyReads S.X.block32 NoneIsBad (refusal_fault result) (S.seen store.old) (S.seen store.new) }
 {
-    let (cid, shape) = found_in(alloc, path, store, touches)?;
-    let Shape::File(_) = shape else {
-        return Err(no_file(alloc, path));
-    };
-    Ok(cid)
+    let cid = led_to(alloc, path, store, touches)?;
+    match survey_nodes(alloc, store, &cid, &USUAL, touches) {
+        Err(fault) => Err(dag_refusal(alloc, path, fault)),
+        Ok(Shape::File(_)) => Ok(cid),
+        Ok(Shape::Folder(_, _)) => Err(no_file(alloc, path)),
+    }
 }
 
-// The CID of the tree to which a path leads.
+// The CID of the tree to which a path leads. Everything below it is read.
 pub fn tree_in<S: Store, L: Ledger>(
     alloc: Global,
     path: &DagPath,
@@ -77,45 +79,28 @@ pub fn tree_in<S: Store, L: Ledger>(
     ensures reads { OnlyReads S.X.block32 NoneIsBad (refusal_fault result) (S.seen store.old) (S.seen store.new) }
     ensures touched { touches.old ≤ touches.new }
 {
-    let (cid, _) = found_in(alloc, path, store, touches)?;
-    Ok(cid)
+    let cid = led_to(alloc, path, store, touches)?;
+    match survey(alloc, store, &cid, &USUAL, touches) {
+        Err(fault) => Err(dag_refusal(alloc, path, fault)),
+        Ok(_) => Ok(cid),
+    }
 }
 
-// The CID to which a path leads and the shape of the tree that it denotes, below which everything can be read.
-fn found_in<S: Store, L: Ledger>(
+// The CID to which a path leads.
+fn led_to<S: Store, L: Ledger>(
     alloc: Global,
     path: &DagPath,
     store: &mut S,
     touches: &mut Steps<L>,
-) -> Result<(Cid, Shape), Refusal>
+) -> Result<Cid, Refusal>
     requires { length path.now.names < 2 ^ 32 }
-    ensures finds { ByGoodBlocks S.X.block32 (S.seen store.old).told (λ held. FindsShape held path.now result) }
+    ensures leads { ByGoodBlocks S.X.block32 (S.seen store.old).told (λ held. FindsWay held path.now result) }
     ensures refuses { IfErr result IsOfReading }
     ensures reads { OnlyReads S.X.block32 NoneIsBad (refusal_fault result) (S.seen store.old) (S.seen store.new) }
     ensures touched { touches.old ≤ touches.new }
 {
     match resolve(alloc, store, path, &USUAL, touches) {
         Err(fault) => Err(dag_refusal(alloc, path, fault)),
-        Ok(cid) => shape_under(alloc, path, cid, store, touches),
-    }
-}
-
-// The same CID and its shape, where everything below it can be read.
-fn shape_under<S: Store, L: Ledger>(
-    alloc: Global,
-    path: &DagPath,
-    cid: Cid,
-    store: &mut S,
-    touches: &mut Steps<L>,
-) -> Result<(Cid, Shape), Refusal>
-    ensures finds { ByGoodBlocks S.X.block32 (S.seen store.old).told (λ held. LeadsTo held path.now cid
-        → FindsShape held path.now result) }
-    ensures refuses { IfErr result IsOfReading }
-    ensures reads { OnlyReads S.X.block32 NoneIsBad (refusal_fault result) (S.seen store.old) (S.seen store.new) }
-    ensures touched { touches.old ≤ touches.new }
-{
-    match survey(alloc, store, &cid, &USUAL, touches) {
-        Err(fault) => Err(dag_refusal(alloc, path, fault)),
-        Ok(shape) => Ok((cid, shape)),
+        Ok(cid) => Ok(cid),
     }
 }

@@ -26,7 +26,7 @@ use uf_lenient::resolve;
 use uf_path::DagPath;
 use uf_store::{Steps, Store};
 
-// Writes what is at a path in a DAG to a path of the host, once everything below it was read.
+// Writes what is at a path in a DAG to a path of the host, once its nodes were read and its leaves asked for.
 pub fn get<S: Store, W: Host, L: Ledger>(
     alloc: Global,
     path: &DagPath,
