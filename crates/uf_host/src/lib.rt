@@ -4,6 +4,7 @@
 mod adding;
 mod apart;
 mod fault;
+mod foreseeing;
 mod getting;
 mod import;
 mod intake;

@@ -16,6 +16,7 @@ ghost use Rattle.uf_host.specs.Places.{AppendsPiece, ChangesAt, ChangesIn, Makes
 ghost use Rattle.uf_host.specs.Places.{TakesMembers, places_in, places_of};
 
 use crate::HostFault;
+use crate::foreseeing::foresee_files;
 use crate::site::path_of;
 use std::alloc::Global;
 use std::sync::ledger::Ledger;
@@ -73,7 +74,8 @@ pub fn put_tree<S: Store, W: Host, L: Ledger>(
     }
 }
 
-// Writes what each of these ways leads to into a folder, in their order.
+// Writes what each of these ways leads to into a folder, in their order. The store is told of the files that come
+// next.
 #[cycle(putting)]
 fn put_members<S: Store, W: Host, L: Ledger>(
     export: &Export,
@@ -95,8 +97,9 @@ fn put_members<S: Store, W: Host, L: Ledger>(
     ensures stops { IfErr result IsPutFault }
     ensures shown { OnlyReads S.X.block32 NoneIsBad (edge_fault result) (S.seen store.old) (S.seen store.new) }
 {
-    for way in ways {
+    for (at, way) in ways.iter().enumerate() {
         let path = path_of(export.alloc, folder.as_str(), way.name.as_str())?;
+        foresee_files(store, ways, at);
         put_tree(export, store, host, &way.cid, &path, room, touches)?;
     }
     Ok(())
