@@ -45,26 +45,8 @@ car_refusal (car.Store fault) = refusal.Store fault
 -- the fault of a store that was made for a CAR: its sections lack a block, or two of them have one CID and other
 -- bytes; it fails only out of memory
 abbrev pub section_refusal : StoreFault → Refusal
-section_refusal store.Failed = own_refusal store.Failed
-section_refusal (store.Damaged cid) = own_refusal (store.Damaged cid)
 section_refusal (store.Missing cid) = refusal.CarLacks cid
-section_refusal (store.BadBlock cid role) = own_refusal (store.BadBlock cid role)
-section_refusal (store.Clash cid first second) = own_refusal (store.Clash cid first second)
-section_refusal store.Memory = own_refusal store.Memory
-
--- why a CAR isn't read into such a store
-abbrev pub kept_refusal : CarFault → Refusal
-kept_refusal (car.Truncated place) = car_refusal (car.Truncated place)
-kept_refusal car.Header = car_refusal car.Header
-kept_refusal (car.Version version) = car_refusal (car.Version version)
-kept_refusal (car.BadCid place) = car_refusal (car.BadCid place)
-kept_refusal (car.WrongDigest place cid) = car_refusal (car.WrongDigest place cid)
-kept_refusal (car.TooBigBlock place size) = car_refusal (car.TooBigBlock place size)
-kept_refusal (car.TooManyRoots count) = car_refusal (car.TooManyRoots count)
-kept_refusal (car.BadLength place) = car_refusal (car.BadLength place)
-kept_refusal car.TooLong = car_refusal car.TooLong
-kept_refusal car.Read = car_refusal car.Read
-kept_refusal (car.Store fault) = section_refusal fault
+section_refusal other = own_refusal other
 
 -- why a CAR isn't written
 abbrev pub export_refusal : ExportFault → Refusal

@@ -1,45 +1,13 @@
 //! What is said of CARs.
 ghost use Rattle.std.specs.Prelude.{◌≡◌, ◌++◌, IfOk, OnOk};
 ghost use Rattle.std.specs.List.{flat_map};
-ghost use Rattle.uf_command.specs.Cars.{car_refusal as refusal_of_car, export_refusal as refusal_of_export, root_line};
-ghost use Rattle.uf_command.specs.Cars.{kept_refusal as refusal_of_kept, section_refusal as refusal_of_section};
+ghost use Rattle.uf_command.specs.Cars.{root_line, section_refusal as refusal_of_section};
 ghost use Rattle.uf_command.specs.Statuses.{own_refusal as refusal_of_own};
 
-use crate::{DagRule, Refusal};
+use crate::Refusal;
 use std::alloc::Global;
-use uf_car::{CarFault, ExportFault};
 use uf_cid::{Block, Cid, Cids, Memory};
 use uf_store::StoreFault;
-
-/// A fault of a CAR, as a refusal.
-pub fn car_refusal(fault: CarFault) -> Refusal
-    ensures { result ≡ refusal_of_car fault }
-{
-    let (number, place) = match fault {
-        CarFault::Truncated(place) => (1, place),
-        CarFault::Header => (2, 0),
-        CarFault::Version(_) => (3, 0),
-        CarFault::BadCid(place) => (4, place),
-        CarFault::WrongDigest(place, _) => (5, place),
-        CarFault::TooBigBlock(place, _) => (6, place),
-        CarFault::TooManyRoots(_) => (7, 0),
-        CarFault::BadLength(place) => (8, place),
-        CarFault::TooLong => (9, 0),
-        CarFault::Read => return Refusal::Read,
-        CarFault::Store(fault) => return Refusal::Store(fault),
-    };
-    Refusal::Car { number, place }
-}
-
-/// A fault of a CAR that is read into a store of its own, as a refusal.
-pub fn kept_refusal(fault: CarFault) -> Refusal
-    ensures { result ≡ refusal_of_kept fault }
-{
-    match fault {
-        CarFault::Store(fault) => section_refusal(fault),
-        fault => car_refusal(fault),
-    }
-}
 
 /// A fault of the store into which a CAR was read, as a refusal: its sections lack a block, or two of them clash. Such
 /// a store is made for the CAR, and fails only out of memory.
@@ -64,18 +32,6 @@ pub fn own_refusal(fault: StoreFault) -> Refusal
         | StoreFault::Missing(_)
         | StoreFault::BadBlock(_, _)
         | StoreFault::Memory => Refusal::Store(StoreFault::Memory),
-    }
-}
-
-/// Why a CAR isn't written, as a refusal.
-pub fn export_refusal(fault: ExportFault) -> Refusal
-    ensures { result ≡ refusal_of_export fault }
-{
-    match fault {
-        ExportFault::Sink => Refusal::Write,
-        ExportFault::NotDagPb(cid, why) => Refusal::Dag(DagRule::NotUnixfs(cid, why)),
-        ExportFault::TooMany => Refusal::Dag(DagRule::TooMany),
-        ExportFault::Store(fault) => Refusal::Store(fault),
     }
 }
 

@@ -1,11 +1,13 @@
 //! How faults of calls become refusals, where `?` passes them on.
 ghost use Rattle.std.specs.Prelude.{◌≡◌};
+ghost use Rattle.uf_command.specs.Cars.{car_refusal, export_refusal};
 ghost use Rattle.uf_command.specs.Commands.{path_refusal};
 ghost use Rattle.uf_command.specs.Peers.{pull_refusal, serve_refusal};
 ghost use Rattle.uf_command.specs.Pins.{pin_refusal};
 ghost use Rattle.uf_command.specs.Statuses.{no_memory};
 
 use crate::{DagRule, PeerRefusal, PeerRule, Refusal};
+use uf_car::{CarFault, ExportFault};
 use uf_cid::Memory;
 use uf_path::PathFault;
 use uf_pins::PinFault;
@@ -27,6 +29,40 @@ impl From<PathFault> for Refusal {
         match why {
             PathFault::Memory => Refusal::Store(StoreFault::Memory),
             why => Refusal::BadPath(why),
+        }
+    }
+}
+
+impl From<CarFault> for Refusal {
+    ghost from_gives = { λ fault given. given ≡ car_refusal fault };
+
+    fn from(fault: CarFault) -> Refusal {
+        let (number, place) = match fault {
+            CarFault::Truncated(place) => (1, place),
+            CarFault::Header => (2, 0),
+            CarFault::Version(_) => (3, 0),
+            CarFault::BadCid(place) => (4, place),
+            CarFault::WrongDigest(place, _) => (5, place),
+            CarFault::TooBigBlock(place, _) => (6, place),
+            CarFault::TooManyRoots(_) => (7, 0),
+            CarFault::BadLength(place) => (8, place),
+            CarFault::TooLong => (9, 0),
+            CarFault::Read => return Refusal::Read,
+            CarFault::Store(fault) => return Refusal::Store(fault),
+        };
+        Refusal::Car { number, place }
+    }
+}
+
+impl From<ExportFault> for Refusal {
+    ghost from_gives = { λ fault given. given ≡ export_refusal fault };
+
+    fn from(fault: ExportFault) -> Refusal {
+        match fault {
+            ExportFault::Sink => Refusal::Write,
+            ExportFault::NotDagPb(cid, why) => Refusal::Dag(DagRule::NotUnixfs(cid, why)),
+            ExportFault::TooMany => Refusal::Dag(DagRule::TooMany),
+            ExportFault::Store(fault) => Refusal::Store(fault),
         }
     }
 }

@@ -18,9 +18,7 @@ mod telling;
 mod types;
 
 pub use batches::read_line;
-pub use cars::{
-    car_refusal, export_refusal, kept_refusal, own_refusal, root_lines, section_refusal,
-};
+pub use cars::{own_refusal, root_lines, section_refusal};
 pub use dags::{adopted_name, dag_refusal, no_file};
 pub use lines::{line, plain, refusal_status, two_blocks};
 pub use peers::{pull_end, serve_end, tell_talk};

@@ -30,12 +30,12 @@ use Rattle.uf_store.specs.Writing.{ReplaceNone, SavesOnly}
 use Rattle.uf_store.specs.declared.store.StoreFault.{StoreFault}
 use Rattle.uf_store.specs.declared.store.StoreFault.TheVariants as fault
 use Rattle.uf_store.proofs.Causes.{StaysCalm-refl, calm-memory}
-use Rattle.uf_command.specs.Cars.{car_refusal, kept_refusal, most_blocks, most_car}
+use Rattle.uf_command.specs.Cars.{car_refusal, most_blocks, most_car}
 use Rattle.uf_command.specs.Kinds.{refusal_fault}
 use Rattle.uf_command.specs.Statuses.{no_memory}
 use Rattle.uf_command.specs.declared.types.Refusal.{Refusal}
 use Rattle.uf_command.specs.declared.types.Refusal.TheVariants as refusal
-use Rattle.uf_top.specs.Cars.{ComparesCar, ComparesStores, IsRootOf, SparesStore, TakesRoot, root_alone}
+use Rattle.uf_top.specs.Cars.{ComparesCar, ComparesStores, IsRootOf, SparesStore, TakesRoot, kept_refusal, root_alone}
 use Rattle.uf_top.specs.Naming.{TellsBlocks}
 use Rattle.uf_top.specs.Reply.{by_answer, by_roots, car_compared, compared_text, not_one_root, same_refusal, unless_two, verdict_told}
 use Rattle.uf_top.proofs.Kept.{free-of}
@@ -218,6 +218,20 @@ module _ (X : List ℕ → List ℕ) (a b : Seen) (l : streams.Told) (i j : ℕ)
         by [] e = other-roots (λ held sections cid. ap (by_roots held sections cid) e)
         by (root ∷ []) e = one-root root e
         by (first ∷ second ∷ roots) e = other-roots (λ held sections cid. ap (by_roots held sections cid) e)
+
+  -- the same of what a call answered and of what was made of its fault
+  abbrev IsKept : CarFault → Refusal → Type 0
+  IsKept f why = why ≡ kept_refusal f
+
+  pub root-unread : (answer : Result Imported CarFault) (why : Refusal) → IsRefusedAs IsKept answer (Err why) → Reads answer → Shown X NoneIsBad (car_fault answer) a b → IfSome (car_fault answer) IsSaving → Counts (is_source_fault answer) i j
+      → Taken (Err why)
+  root-unread (Ok imported) why is reads cause saving counts = absurd cc
+  root-unread (Err f) why is reads cause saving counts = subst (λ (why : Refusal). Taken (Err why)) (sym is) (root-refused f reads cause saving counts)
+
+  pub root-read : (answer : Result Imported CarFault) (imported : Imported) → IsRefusedAs IsKept answer (Ok imported) → Reads answer → Counts (is_source_fault answer) i j
+      → (r : Result Cid Refusal) → r ≡ root_alone imported.roots → Taken r
+  root-read (Err f) imported is reads counts r alone = absurd is
+  root-read (Ok found) imported is reads counts r alone = let same : imported ≡ found = cc in roots-judged found reads counts r (alone ∙ ap (λ (x : Imported). root_alone x.roots) same)
 
 -- ---- two stores are compared
 

@@ -6,12 +6,14 @@ use Rattle.std.specs.declared.result.Result.TheVariants.{Ok, Err}
 use Rattle.uf_car.specs.Clashing.{HasTwo, sections_clash, sections_held}
 use Rattle.uf_car.specs.Importing.{with_saves}
 use Rattle.uf_car.specs.Reading.{Read, car_read}
+use Rattle.uf_car.specs.declared.fault.CarFault.{CarFault}
+use Rattle.uf_car.specs.declared.fault.CarFault.TheVariants as car_fault
 use Rattle.uf_cid.specs.Blocks.{Held, IsClash, Lookup}
 use Rattle.uf_cid.specs.declared.cid.Cid.{Cid}
 use Rattle.uf_edge.specs.Counts.{Counts, Stood}
 use Rattle.uf_edge.specs.Streams as streams
 use Rattle.uf_mfs.specs.Standing.{LeavesHead, TellsHeld}
-use Rattle.uf_command.specs.Cars.{most_blocks, most_car, roots_told}
+use Rattle.uf_command.specs.Cars.{car_refusal, most_blocks, most_car, roots_told, section_refusal}
 use Rattle.uf_command.specs.Natures.{OwnStore, NoStore, OfCarSections, OfTree, SyncsBlocks}
 use Rattle.uf_command.specs.Kinds.{IsOf, same_kinds, import_kinds, may_meet, refusal_fault}
 use Rattle.uf_command.specs.Statuses.{ended, no_memory}
@@ -137,6 +139,11 @@ abbrev pub TellsRoot : Read (List Cid) → Result Cid Refusal → Told → (read
 TellsRoot car (Ok root) now reads reads_now = IsRootOf car root now
 TellsRoot car (Err why) now reads reads_now = Stood reads reads_now
     → (why ≡ no_memory) ⊎ ((held : Lookup) (cid : Cid) → car_compared held cid car ≡ Err why)
+
+-- why a CAR isn't read into a store that was made for it
+abbrev pub kept_refusal : CarFault → Refusal
+kept_refusal (car_fault.Store why) = section_refusal why
+kept_refusal other = car_refusal other
 
 -- how the CAR that the input has was read into an empty store: its root, each refusal with its cause
 pub record TakesRoot (X : List ℕ → List ℕ) (done : Result Cid Refusal) (before now : Told) (left : streams.Told)

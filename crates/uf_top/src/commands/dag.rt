@@ -8,6 +8,7 @@ ghost use Rattle.uf_command.specs.Cars.{root_line};
 ghost use Rattle.uf_store.specs.Contents.{changed, with_sync};
 ghost use Rattle.uf_top.specs.Causes.{Stops};
 ghost use Rattle.uf_top.specs.Cars.{ByOwnStore, ComparesCar, ComparesStores, KeepsCar, TakesRoot, root_alone};
+ghost use Rattle.uf_top.specs.Cars.{kept_refusal as refusal_of_kept};
 ghost use Rattle.uf_top.specs.Intake.{ShownIn};
 ghost use Rattle.uf_top.specs.Lent.{OverOutput, OverStreams};
 ghost use Rattle.uf_top.specs.Reply.{compared_text as text_of_compared, same_refusal as refusal_of_same};
@@ -16,12 +17,9 @@ ghost use Rattle.uf_top.specs.Working.{Does};
 use crate::commands::add::synced;
 use std::alloc::Global;
 use std::sync::ledger::Ledger;
-use uf_car::{export, import};
+use uf_car::{CarFault, export, import};
 use uf_cid::{Block, Cid, Cids, Memory};
-use uf_command::{
-    DagRule, Refusal, car_refusal, export_refusal, kept_refusal, plain, print, root_lines,
-    section_refusal, two_blocks,
-};
+use uf_command::{DagRule, Refusal, plain, print, root_lines, section_refusal, two_blocks};
 use uf_edge::{Sink, Source};
 use uf_same::{Compared, SameFault, same};
 use uf_store::{MemStore, Steps, Store, StoreFault};
@@ -43,10 +41,8 @@ pub fn export_car<S: Store, O: Sink, L: Ledger>(
     ensures { (N : List ℕ → ℕ) → OverOutput O.Sink (Does S.X.block32 N (commands.Export cid.now) result)
         (S.seen store.old) output.old touches.old (S.seen store.new) output.new touches.new }
 {
-    match export(alloc, store, cid, MOST_BLOCKS, output, touches) {
-        Ok(_) => Ok(()),
-        Err(fault) => Err(export_refusal(fault)),
-    }
+    export(alloc, store, cid, MOST_BLOCKS, output, touches)?;
+    Ok(())
 }
 
 // Keeps the blocks of the CAR that the input has, and then prints its roots.
@@ -74,10 +70,8 @@ fn roots_of<S: Store, I: Source, L: Ledger>(
     ensures { KeepsCar S.X.block32 result (S.seen store.old) (S.seen store.new) (I.left input.old)
         (I.faults input.old) (I.faults input.new) }
 {
-    match import(alloc, store, input, MOST_BYTES, touches) {
-        Err(fault) => Err(car_refusal(fault)),
-        Ok(imported) => firm_lines(alloc, &imported.roots, store),
-    }
+    let imported = import(alloc, store, input, MOST_BYTES, touches)?;
+    firm_lines(alloc, &imported.roots, store)
 }
 
 // The roots of a CAR, each in a line, once what was kept of it is durable.
@@ -136,9 +130,17 @@ fn one_root<S: Store, I: Source, L: Ledger>(
     ensures { TakesRoot S.X.block32 result (S.seen store.old).told (S.seen store.new).told (I.left input.old)
         (I.faults input.old) (I.faults input.new) }
 {
-    match import(alloc, store, input, MOST_BYTES, touches) {
-        Err(fault) => Err(kept_refusal(fault)),
-        Ok(imported) => only_root(&imported.roots),
+    let imported = import(alloc, store, input, MOST_BYTES, touches).map_err(kept_refusal)?;
+    only_root(&imported.roots)
+}
+
+// A fault of a CAR that is read into a store of its own, as a refusal.
+fn kept_refusal(fault: CarFault) -> Refusal
+    ensures { result ≡ refusal_of_kept fault }
+{
+    match fault {
+        CarFault::Store(fault) => section_refusal(fault),
+        fault => Refusal::from(fault),
     }
 }
 

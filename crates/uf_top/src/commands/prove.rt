@@ -13,7 +13,7 @@ use crate::commands::files::opened;
 use std::alloc::Global;
 use std::sync::ledger::Ledger;
 use uf_cid::{BlockHash, Cid};
-use uf_command::{DagRule, Refusal, car_refusal};
+use uf_command::{DagRule, Refusal};
 use uf_edge::{Sink, Source};
 use uf_light::{Asked, LightFault, check, prove};
 use uf_murmur::NameHash;
@@ -92,7 +92,7 @@ fn refusal(alloc: Global, names: &[Name], fault: LightFault) -> Refusal
         LightFault::IsADirectory => by_rule(alloc, names, Refused::IsADirectory(names.len())),
         LightFault::Exists => by_rule(alloc, names, Refused::Exists(names.len())),
         LightFault::OtherRoot(cid) => Refusal::Dag(DagRule::OtherRoot(cid)),
-        LightFault::Car(fault) => car_refusal(fault),
+        LightFault::Car(fault) => Refusal::from(fault),
         LightFault::Sink => Refusal::Write,
         LightFault::Store(fault) => Refusal::Store(fault),
     }
